@@ -1,8 +1,7 @@
 #!/usr/bin/env python3
 """Tries the must-fail edits that the gate does not: wrong bodies that the prover must refuse, below tests/must-fail.
 
-Usage: edits.py [--read] [CRATE
- CRATE/NAME ...]       (a crate's edits, or one of them; all of them, if none is named)
+Usage: edits.py [--read] [CRATE | CRATE/NAME ...]       (a crate's edits, or one of them; all of them, if none is named)
 
 The crates are copied to a temporary folder, with their build results, and have these edits there in place of the gate's; `rt must-fail`
 tries them, crate by crate. That takes a crate's proof and some 20 seconds an edit, and first the proof of each library below that is not

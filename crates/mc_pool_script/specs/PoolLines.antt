@@ -82,8 +82,8 @@ join_line servers text = do
   address ← address_read text
   if is_some (refusal_of_more servers address) then None else Some (Joins address)
 
--- the line of a command whose words are numbers alone, by the text after its name: `gone <client>`, `turn <client>`, `emit
--- <client>`, `reply <server>`, `lost <server>`, `back <server>`, `restart <server>`, `drain <moment>`, and those above
+-- the line of a command whose words are numbers alone, by the text after its name: `gone <client>`, `turn <client>`,
+-- `emit <client>`, `reply <server>`, `lost <server>`, `back <server>`, `restart <server>`, `drain <moment>`, and those above
 abbrev pub numbers_line : ℕ → ℕ → Command → List ℕ → Option PoolLine
 numbers_line clients servers Gone text = option_map (λ client. Event (ClientGone client)) (place_of clients text)
 numbers_line clients servers Turn text = option_map (λ client. Event (ProxyTurn client)) (place_of clients text)

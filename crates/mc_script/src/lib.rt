@@ -7,8 +7,8 @@
 //! other scripts find what they need here too: [`lines_of`], [`cut_at_space`], [`read_limit`], [`read_place`], [`read_moment`],
 //! [`hex_value`] and [`push_named_line`].
 //!
-//! A script is lines of text: `server <connections> <budget> <items>`, then `bytes <connection> <text>` and `turn <connection>
-//! <moment>`; connections have the numbers from 0 on. The definitions in `specs/` say what each means; worked examples are in
+//! A script is lines of text: `server <connections> <budget> <items>`, then `bytes <connection> <text>` and
+//! `turn <connection> <moment>`; connections have the numbers from 0 on. The definitions in `specs/` say what each means; worked examples are in
 //! `src/rows.rt`.
 #![tactic(auto)]
 

@@ -6,8 +6,8 @@
 //! ring finds the owners of keys, and `store` how fast a cache answers over each store.
 //!
 //! `case KIND SIZE PIECE` runs one case alone, and `load KIND SIZE PIECE` only makes what its client would send. So a tool that
-//! counts instructions measures the cost of a request: the difference of two sizes of `case`, less that of `load`. `link GETS
-//! SIZE PIECE` sends this number of gets over one link, whose values have SIZE bytes, and reads the server's bytes in pieces.
+//! counts instructions measures the cost of a request: the difference of two sizes of `case`, less that of `load`.
+//! `link GETS SIZE PIECE` sends this number of gets over one link, whose values have SIZE bytes, and reads the server's bytes in pieces.
 //! `hold ITEMS` makes a cache that stores exactly ITEMS items: the memory of two such runs shows the cost of an item.
 
 use crate::cases::{CASES, Case, Kind};

@@ -1,8 +1,8 @@
 #!/usr/bin/env python3
 """Tries the programs of libmemcached on a server, in the text protocol (Debian: libmemcached-tools).
 
-memccapable's tests of the text protocol are run twice: straight, and through a relay that makes `version` of `version foo
-bar` and `version noreply`, by which many of them check whether the server still answers.
+memccapable's tests of the text protocol are run twice: straight, and through a relay that makes `version` of
+`version foo bar` and `version noreply`, by which many of them check whether the server still answers.
 """
 
 import pathlib
