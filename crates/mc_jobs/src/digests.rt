@@ -2,8 +2,7 @@
 ghost use Rattle.std.specs.Prelude.{◌≤◌, ◌+◌};
 
 /// A digest of texts, in the order in which they are added. Of each text eight words at a time go into eight sums side by side, and these
-/// into eight sums of sums. So it costs little compared with the text itself.
-/// into eight sums of sums: so it costs little beside what made the text.
+/// into eight sums of sums. So it costs little beside the work that made the text.
 #[derive(Clone, Copy)]
 pub struct Digest {
     value: u64,

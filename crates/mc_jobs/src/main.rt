@@ -1,9 +1,8 @@
-//! Plays whole jobs, each of a kind that users wait for, and prints the number of requests and a digest of all answers.
+//! Plays whole jobs, each of a kind that users wait for, and prints how much was asked and a digest of all answers.
 //!
 //! `JOB SEED` plays the job of that name at full size, with requests made from the seed: `pages`, `large`, `counters`, `pool`, `scripts`
 //! or `awkward`. Each seed makes other requests of the same kinds and sizes. A tool that times a process measures the cost of a job.
 //! Without arguments each job is played at a small part of its size.
-//! job costs. With no argument each job is played at a small part of its size.
 #![tactic(auto)]
 
 mod awkward;
@@ -30,7 +29,7 @@ const JOBS: [&str; 6] = ["pages", "large", "counters", "pool", "scripts", "awkwa
 /// The number of parts that the size of a job is divided into for a run without arguments.
 const QUICK: u64 = 500;
 
-/// The result of a job: the number of requests, and a digest of all answers.
+/// The result of a job: how much was asked, in requests or in events of scripts, and a digest of all answers.
 #[derive(Clone, Copy)]
 pub struct Played {
     pub asked: u64,
