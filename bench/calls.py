@@ -3,16 +3,16 @@
 
 Usage: calls.py SERVER [--through PROXY] [--beside PROGRAM] [--cases NAME,NAME ..] [--requests N] [--by NAME,NAME]
 
-SERVER is the built mc_serverd. With --through it is PROXY, the built mc_proxyd, beside nutcracker, both in front of the same two servers. All
-are filled with 100,000 items of 20 and 100 bytes. For each case load.c sends N requests (20,000): gets one at a time on one connection, on
-50 and on 500, and 32 at a time on 50; sets on 50. Their calls are counted (--by)
+SERVER is the built mc_serverd. With --through, PROXY, the built mc_proxyd, is measured beside nutcracker, both in front of the same two
+servers. All are filled with 100,000 items of 20 and 100 bytes. For each case load.c sends N requests (20,000): gets one at a time on one
+connection, on 50 and on 500, and 32 at a time on 50; sets on 50. Their calls are counted (--by)
 
     strace  by `strace -f -c` on the program that was started, which stops it at each call: so more connections are ready at a time
     perf    by `perf stat` and the kernel's own points of tracing, which hold it up little; only root may
 
-Told are, for a request, the calls that read and that write, and in brackets how many of them failed, as nothing had come; those that wait
-for events; all others; how often the program slept (its voluntary switches, in a run that nobody counts); and which calls these are. It
-prints a table in Markdown.
+The table has, for a request, the calls that read and that write, and in brackets how many of them failed, as nothing had arrived; those that
+wait for events; all others; how often the program slept (its voluntary switches, in a run without counting); and which calls these are. It is
+printed in Markdown.
 """
 
 import argparse
@@ -37,7 +37,7 @@ ALONE = Case("alone", "get of one connection", None, words="connections=1")
 READS, WRITES, WAITS = ("read", "recvfrom", "readv", "recvmsg"), ("write", "sendto", "writev", "sendmsg"), ("epoll_wait", "epoll_pwait")
 OTHERS = ("epoll_ctl", "futex", "clock_gettime", "accept4", "close", "madvise", "mmap", "munmap", "brk")  # that perf counts by their names
 WARM_UP = 2_000
-SHOWN = 0.005  # calls for a request, from which on a call is told by its name
+SHOWN = 0.005  # calls for a request; from this number on the table names a call
 
 
 class Count(NamedTuple):
@@ -71,7 +71,7 @@ class Strace:
 
 
 class Perf:
-    """The same by perf, which counts by name those calls that are named here."""
+    """Counts the calls of a program by perf, which counts the calls named here, by name."""
 
     name = "perf"
 
@@ -126,7 +126,7 @@ def row(case, name, how, counts, requests, sleeps):
 
 
 def measure(pair, each, name, case, asked, folder):
-    """The rows of a program in a case."""
+    """The table's rows of a program in a case."""
     with pair.load(each, case.words) as load:
         load.tell(f"count {WARM_UP}")
         before = sleeps_of(each.process.pid)

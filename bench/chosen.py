@@ -1,5 +1,5 @@
 #!/usr/bin/env python3
-"""Plays streams that a stranger may choose to the server and the proxy of two built checkouts, by turns.
+"""Plays streams that a stranger may choose to the server and the proxy of two built checkouts, in turn.
 
 Usage: chosen.py OLD NEW [--seconds S] [STREAM ..]
 
@@ -7,12 +7,13 @@ OLD and NEW are checkouts whose crates/mc_serverd/out/mc_serverd and crates/mc_p
 those of chosen_streams.py, all or the named ones; with `proxy/` in front of its name a stream is played to a proxy over two servers of
 the same checkout, and a name may be a pattern (`proxy/*`, `front-*`). A server holds 100,000 items of 100 bytes.
 
-A line tells of each stream the nanoseconds of processor time, the program's own and the kernel's for it, for each byte and for each
-request, in OLD and in NEW; their ratio, and between what the middle half of the rounds lies; what it takes of NEW beside the plain stream
-that it is compared with, by bytes and by requests (dear is what is above 1 in both); and how many times as long NEW takes with 100,000
-items as with 1,000, where it makes no look ahead. Figures are medians of rounds. A stream is played until OLD has taken S seconds (0.2).
+A line has for each stream the nanoseconds of processor time, the program's own and the kernel's for it, for each byte and for each
+request, in OLD and in NEW. It also has their ratio, with the middle half of the rounds. Then it has the cost in NEW relative to the plain
+stream that this one is compared with, by bytes and by requests (expensive is what is above 1 in both). Last is how many times as long NEW
+takes with 100,000 items as with 1,000, with which it makes no look ahead. Figures are medians of rounds. A stream is played until OLD
+has taken S seconds (0.2).
 
-The same bytes are to be answered by both: where they are not, that is said, and the exit status is 1.
+Both must answer the same bytes: if they do not, a line says so, and the exit status is 1.
 """
 
 import argparse
@@ -40,7 +41,7 @@ from servers import Proxy, Server, connected
 
 ITEMS, FEW_ITEMS = 100_000, 1_000
 BUDGET, MOST_ITEMS = 200_000_000, 200_000
-ROUNDS, LEAST_ROUNDS = 15, 5  # of a stream; fewer where a single play takes long
+ROUNDS, LEAST_ROUNDS = 15, 5  # of a stream; fewer if a single play takes long
 PATIENCE = 30  # seconds that a program may take for anything
 MOST_TIME = 10  # seconds after which no more rounds of a stream begin
 SENT_AT_ONCE = 65_536
@@ -56,17 +57,17 @@ ANY = 0xFFFFFFFF
 
 
 class Stopped(Exception):
-    """A program does not go on."""
+    """A program makes no progress."""
 
 
 class Reading:
-    """Asks the kernel whether a program has read all that was sent to it on a connection."""
+    """Asks the kernel whether a program has read all bytes that were sent to it on a connection."""
 
     def __init__(self):
         self.kernel = socket.socket(socket.AF_NETLINK, socket.SOCK_RAW, SOCK_DIAG)
 
     def question(self, connection):
-        """What is asked of the other side of a connection."""
+        """What the kernel is asked about the other side of a connection."""
         ours, theirs = connection.getsockname(), connection.getpeername()
         body = struct.pack(ASKED, socket.AF_INET, socket.IPPROTO_TCP, 0, 0, ANY)
         body += struct.pack(ADDRESS, theirs[1], ours[1], socket.inet_aton(theirs[0]), socket.inet_aton(ours[0]))
@@ -83,7 +84,7 @@ class Reading:
 
 
 class Client:
-    """A connection to a program, and what it was answered."""
+    """A connection to a program, and the answers on it."""
 
     def __init__(self, program, reading, is_settled=True):
         self.connection, self.reading, self.answers = connected(program.port, PATIENCE), reading, []
@@ -94,7 +95,7 @@ class Client:
         self.question = reading.question(self.connection)
 
     def take(self):
-        """Takes what is there of the answers, and says whether there may be more."""
+        """Takes the answers that have arrived, and returns whether there may be more."""
         try:
             answer = self.connection.recv(READ_AT_ONCE)
         except BlockingIOError:
@@ -114,7 +115,7 @@ class Client:
                 raise Stopped("a program closed a connection")
 
     def await_reading(self):
-        """Waits until the program has read what was sent."""
+        """Waits until the program has read the bytes that were sent."""
         deadline = time.monotonic() + PATIENCE
         while self.reading.waiting(self.question):
             self.take()
@@ -122,13 +123,13 @@ class Client:
                 raise Stopped("a program reads no more")
 
     def await_end(self):
-        """Says that no more is sent, and takes all answers."""
+        """Ends the sending side, and takes all answers."""
         self.connection.shutdown(socket.SHUT_WR)
         while self.poll(select.POLLIN) and self.take():
             pass
 
     def poll(self, events):
-        """Waits until the connection can be read or written, and says which."""
+        """Waits until the connection can be read or written, and returns which."""
         poll = select.poll()
         poll.register(self.connection, events)
         ready = poll.poll(PATIENCE * 1_000)
@@ -138,7 +139,7 @@ class Client:
 
 
 class Program:
-    """A program that is measured, and what it has answered to a stream."""
+    """A program that is measured, and its answers to a stream."""
 
     def __init__(self, listener, reading):
         self.listener, self.reading, self.answers, self.last = listener, reading, None, []
@@ -152,7 +153,7 @@ class Program:
                 raise Stopped("a program does not come to rest")
 
     def clock(self):
-        """Seconds of its processor time, once it waits: the kernel adds what runs when it stops running."""
+        """Seconds of its processor time, once it waits: the kernel adds the time of a run when the run ends."""
         self.await_rest()
         return self.listener.processor_time()
 
@@ -167,7 +168,7 @@ class Program:
             client.send(piece)
 
     def played(self, play):
-        """Plays it to the program: what that answered, in pieces, and the seconds of processor time that it took."""
+        """Plays the stream to the program. Returns its answers, in pieces, and the seconds of processor time that it took."""
         with contextlib.ExitStack() as stack:
             clients = [Client(self.listener, self.reading, play.is_settled) for _ in range(play.connections)]
             for client in clients:
@@ -180,7 +181,7 @@ class Program:
         return [answer for client in clients for answer in client.answers], seconds
 
     def filled(self, items):
-        """The same with so many items, and those that streams ask for."""
+        """A program of this kind with this number of items, and those that streams ask for."""
         keys = [(b"k%d" % number, VALUE) for number in range(items)]
         text = b"".join(b"set %s 0 0 %d\r\n%s\r\n" % (key, len(value), value) for key, value in [*keys, *FILLED.items()])
         client = Client(self.listener, self.reading)
@@ -196,7 +197,7 @@ class Program:
         self.answers = hashlib.sha1()
 
     def play(self, play, times):
-        """Plays it some times, and gives the seconds of one."""
+        """Plays it several times, and returns the seconds of one play."""
         total = 0
         for _ in range(times):
             self.last, seconds = self.played(play)
@@ -217,7 +218,7 @@ def differing(old, new):
 
 
 class Took:
-    """What a stream took of each program: seconds of a play, in each round and their median."""
+    """The time of a stream in each program: seconds of a play, in each round and their median."""
 
     def __init__(self, stream, play, rounds, differing):
         self.stream, self.play, self.rounds, self.differing = stream, play, rounds, differing
@@ -229,13 +230,13 @@ class Took:
         return self.seconds[at] / self.bytes * 1e9, self.seconds[at] / self.play.requests * 1e9
 
     def ratio(self, one, other):
-        """Between what the middle half of the rounds lies, and in the middle their median."""
+        """The middle half of the rounds, and in the middle their median."""
         ratios = [each[one] / each[other] for each in self.rounds]
         return statistics.quantiles(ratios, n=4) if len(ratios) > 1 else ratios * 3
 
 
 def measured(stream, programs, seconds):
-    """Plays a stream to the programs in rounds, which begin with each in turn. All are played to equally often."""
+    """Plays a stream to the programs in rounds, which begin with each in turn. It is played to all equally often."""
     play = stream.make()
     for program in programs:
         program.begin()
@@ -262,7 +263,7 @@ def program_of(top, crate):
 
 
 class Bench:
-    """Where programs are started, and by which processors they are kept."""
+    """The place where programs are started, and the processors that they are kept on."""
 
     def __init__(self, stack, asked):
         self.stack, self.tops, self.seconds, self.reading = stack, (asked.old, asked.new), asked.seconds, Reading()
@@ -307,7 +308,7 @@ def row(prefix, took, plain):
 
 
 def run(prefix, streams, bench, programs):
-    """Measures the streams, and gives what each took."""
+    """Measures the streams, and returns the time of each."""
     of_all = {}
     for stream in streams:
         try:
@@ -321,15 +322,15 @@ def run(prefix, streams, bench, programs):
 
 
 def are_wanted(took):
-    """Whether a stream is within what is wanted."""
+    """Whether a stream is within its targets."""
     beside_few = took.ratio(1, 2)[1] if len(took.seconds) > 2 else 0
     return took.ratio(1, 0)[1] <= WANTED_BESIDE_OLD and beside_few <= WANTED_BESIDE_FEW
 
 
 def chosen(patterns, streams):
-    """The streams that are asked for, with the plain ones beside which they stand."""
+    """The streams that are asked for, with the plain ones that they are compared with."""
     wanted = {each.name for each in streams if any(fnmatch.fnmatchcase(each.name, pattern) for pattern in patterns)}
-    for each in reversed(streams):  # A plain one comes before those that stand beside it.
+    for each in reversed(streams):  # A plain one is played before those that are compared with it.
         if each.name in wanted:
             wanted.add(each.plain)
     return [each for each in streams if each.name in wanted]
@@ -344,7 +345,7 @@ def told_start(asked):
 
 
 def told_end(all_took):
-    """What is not as it is wanted, and the exit status."""
+    """What misses its target, and the exit status."""
     above = [took.stream.name for took in all_took if not are_wanted(took)]
     wrong = [took.stream.name for took in all_took if took.differing]
     print(f"\n{len(all_took)} streams. Above {WANTED_BESIDE_OLD} times OLD, or {WANTED_BESIDE_FEW} times {FEW_ITEMS:,} items:", end=" ")

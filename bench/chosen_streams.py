@@ -2,7 +2,7 @@
 
     STREAMS[3].make()    the play of a stream: its pieces, each for one of its connections, and how many requests and faults they are
 
-What is played to holds FILLED (a server with 1,000 items holds the same, and fewer of the others that nobody asks for).
+The program holds FILLED (a server with 1,000 items holds these too, and fewer of the others that nobody asks for).
 """
 
 import base64
@@ -19,7 +19,7 @@ STORED = [b"s%d" % number for number in range(100)]
 COUNTED = [b"n%d" % number for number in range(100)]
 LONG = [b"%03d" % number + b"L" * 247 for number in range(24)]
 SHORT = [b"%c" % letter for letter in b"pqrstuvwxyz"]
-COLD = [b"k%d" % (number * 7_919 % 100_000) for number in range(15_500)]  # held by a server with 100,000 items, far from the processor
+COLD = [b"k%d" % (number * 7_919 % 100_000) for number in range(15_500)]  # stored by a server with 100,000 items, far from the processor
 ABSENT = [b"a%d" % number for number in range(100)]
 LONG_ABSENT = [b"%03d" % number + b"A" * 247 for number in range(24)]
 SHORT_ABSENT = [b"%c" % letter for letter in b"ABCDEFGHIJKLMNOPQRSTUVWXYZ01234"]  # as many as a look takes beside one
@@ -34,8 +34,8 @@ FAST, READ, AT_REST = "as fast as it is taken", "when all before is read", "when
 
 
 class Play(NamedTuple):
-    """Pieces, each with the number of its connection, and when each is sent. A connection that is settled has sent a line before, by which
-    it is known to speak text."""
+    """Pieces, each with the number of its connection, and when each is sent. A settled connection has sent a line before, which shows
+    that it speaks text."""
 
     pieces: list
     requests: int
@@ -45,7 +45,7 @@ class Play(NamedTuple):
 
 
 class Stream(NamedTuple):
-    """A stream: what a stranger wants with it, and the name of the plain one that it stands beside."""
+    """A stream: what a stranger wants with it, and the name of the plain one that it is compared with."""
 
     name: str
     plain: str
@@ -58,24 +58,24 @@ class Stream(NamedTuple):
 
 
 def flow(text, requests=1, size=TEXT):
-    """A text again and again on one connection, as fast as it is taken."""
+    """A text sent repeatedly on one connection, as fast as it is taken."""
     times = max(1, size // len(text))
     return Play([(0, text * times)], requests * times)
 
 
 def unsettled(play):
-    """The same from connections of which nothing is known."""
+    """A text sent repeatedly from connections of which nothing is known."""
     return play._replace(is_settled=False)
 
 
 def batches(lines, count):
-    """Lines, so many in each piece."""
+    """Lines, this many in each piece."""
     pieces = [b"".join(itertools.islice(itertools.cycle(lines), at, at + count)) for at in range(0, 400 * count, count)]
     return Play([(0, piece) for piece in pieces], 400 * count, READ)
 
 
 def cut(text, size, requests, head=b""):
-    """A text in pieces of a size, behind a piece that is its head."""
+    """A text in pieces of a size, after a piece that is its head."""
     heads = [(0, head)] if head else []
     return Play(heads + [(0, text[at : at + size]) for at in range(0, len(text), size)], requests, AT_REST)
 
@@ -88,7 +88,7 @@ def turn_by_turn(lines):
 
 
 def slowly(front, line=b"set s0 0 0 %d\r\n", requests=2):
-    """A line behind what is in front, whose block comes in 2,000 pieces of 50 bytes."""
+    """A line after the text in front, whose block arrives in 2,000 pieces of 50 bytes."""
     block = b"x" * (SEGMENTS * 50)
     return cut(block + b"\r\nset s0 0 0 0\r\n\r\n", 50, requests, front + line % len(block))
 
@@ -111,7 +111,7 @@ def each(form, keys=HELD):
 
 
 def flow_of(form, keys=HELD, requests=1):
-    """Lines of a form, with one key after the other."""
+    """Lines of a form, one key after another."""
     return flow(b"".join(each(form, keys)), len(keys) * requests)
 
 
@@ -127,18 +127,18 @@ def puts(block, line=b"set KEY 0 0 %d\r\n"):
 
 
 def sets():
-    """Sets of one key after the other."""
+    """Sets of one key after another."""
     return each(put(VALUE, b"set KEY 0 0 %d\r\n"), STORED)
 
 
 def part_refused(keys, count):
-    """So many sets, and a line that is refused, of one key after the other."""
+    """This many sets, and a line that is refused, of one key after another."""
     before = itertools.cycle([b"".join(sets()[at : at + count]) for at in range(0, len(STORED) - count, count)])
     return flow(b"".join(next(before) + b"md %s !\n" % key for key in keys), (count + 1) * len(keys))
 
 
 def guesses_one_off():
-    """As many sets as a look takes, and behind the first a refused line that has no guess: each of the others gets another one's."""
+    """As many sets as a look takes, and after the first a refused line that has no guess: each of the others gets another one's."""
     rounds = [[first, b"mg YQ== b !\n", *others] for first, *others in (sets()[at : at + 32] for at in range(0, 96, 32))]
     return flow(b"".join(itertools.chain(*rounds)), sum(map(len, rounds)))
 
@@ -148,13 +148,14 @@ def coded(keys):
 
 
 def filled_with(text, size):
-    """As much of a text, again and again, as has this size."""
+    """A text repeated, up to this size."""
     return (text * (size // len(text) + 1))[:size]
 
 
 def far(line, count, spaces=61):
-    """Lines each of which makes a look ahead that splits words at each single space go on behind the last of them: there it finds
-    lines of empty words. The line's place is for the bytes between; it has a fixed size, and what follows its line end is its block."""
+    """Lines each of which makes a look ahead that splits words at each single space continue after the last of them: there it finds
+    lines of empty words. The line's place is for the bytes between; it has a fixed size, and the bytes after its line end are its
+    block."""
     size = len(line % 0)
     block = size - (line % 0).index(b"\n") - 1
     lines = [line % max(0, block + size * after - 2) for after in range(count)]
@@ -162,7 +163,7 @@ def far(line, count, spaces=61):
 
 
 def mixed_lengths():
-    """Sets of blocks of 0 to 20,000 bytes, small and large by turns, and a get after each."""
+    """Sets of blocks of 0 to 20,000 bytes, small and large in turn, and a get after each."""
     small = list(range(0, 20_001, 97))
     blocks = itertools.chain(*zip(small, reversed(small)))
     text = b"".join(put(b"x" * length, b"set s0 0 0 %d\r\n") + get(b"k1") for length in blocks)
@@ -196,7 +197,7 @@ LONG_LINE = get(*(SHORT * KEYS_OF_A_LONG_LINE)[:KEYS_OF_A_LONG_LINE])
 LONG_LINE_ABSENT = get(*(SHORT_ABSENT * KEYS_OF_A_LONG_LINE)[:KEYS_OF_A_LONG_LINE])
 
 STREAMS = [
-    # Plain ones, beside which the others stand.
+    # Plain ones, with which the others are compared.
     Stream("get", "get", "to be served", lambda: flow_of(GET)),
     Stream("get-24", "get-24", "to be served 24 keys", lambda: flow(LINE_OF_24)),
     Stream("get-24-absent", "get-24", "24 keys that are searched in vain", lambda: flow(LINE_OF_24_ABSENT)),
@@ -258,7 +259,7 @@ STREAMS = [
       for name, line in FAULTY.items()),
     Stream("good-get-33", "get-24-absent", "work ahead for a line that has more keys than there is room",
            lambda: flow_of(GET + get(*ABSENT[:33]), requests=2), False),
-    # The dearest that look_model.py found: good requests that no look takes after another one, since they have a space too many.
+    # The most expensive that look_model.py found: good requests that no look takes after another one, since they have a space too many.
     Stream("get-1-behind", "get-absent", "a look for each key", lambda: flow_of(b"get KEY \n", ABSENT), False),
     Stream("gat-1-behind", "get-absent", "the same", lambda: flow_of(b"gat 0 KEY \n", ABSENT), False),
     Stream("get-3-behind", "get-24-absent", "a look for each 3 keys", lambda: flow_of(b"get KEY a b \n", ABSENT), False),

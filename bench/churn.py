@@ -1,5 +1,6 @@
 #!/usr/bin/env python3
-"""Measures what a full server has resident beside what its items cost: after it was filled, and after long churn of mixed sizes.
+"""Measures how much memory a full server has resident in proportion to the cost of its items: after it was filled, and after long churn of
+mixed sizes.
 
 Usage: churn.py SERVER [--beside PROGRAM] [--megabytes N] [--sizes BYTES,BYTES ..] [--times N] [--sigma S] [--stores KIND,KIND]
                 [--environment NAME=VALUE ..] [--seed N] [--alone]
@@ -8,13 +9,13 @@ SERVER is the built mc_serverd with a budget of N MiB (256) and `--items auto`, 
 started anew for each size (30, 100, 1,000 and 10,000 bytes of a value, keys of 20):
 
     full       filled with new keys whose values have the size, by half as much again as the budget holds
-    the churn  10 times as many stores (--times) as items fit, under keys drawn from twice as many, so that about half of the stores replace a
-               held item and the others evict. The sizes are log-normal: half are below the size, by a sigma of 1.
+    the churn  10 times as many stores (--times) as items fit, under keys drawn from twice as many, so that about half of the stores replace
+               an item and the others evict. The sizes are log-normal: half are below the size, by a sigma of 1.
 
-Told are the items, what they cost (key, value and 64 bytes each), what the process has resident, its ratio to that cost, and its ratio to the
-budget; at the end the most that it ever had. What memcached's items cost is counted alike. Refused is how many stores were answered that
-there is no memory. --environment is what SERVER finds in its environment, such as the settings of the C library. It prints a table in
-Markdown.
+The table has the items, their cost (key, value and 64 bytes each), the resident memory of the process, its ratio to that cost, and its ratio
+to the budget; at the end the most that it ever had. The cost of memcached's items is counted likewise. Refused is how many stores were
+answered that memory is missing. --environment is added to SERVER's environment, such as the settings of the C library. The table is printed
+in Markdown.
 """
 
 import argparse
@@ -37,11 +38,11 @@ SIZES = "30,100,1000,10000"
 WANTED = 1.25
 DRAWN = 1 << 16  # sizes that are drawn beforehand
 SECONDS_TO_REST = 2.5
-PROBE = 100  # bytes of the value by which it is told what memcached counts for an item
+PROBE = 100  # bytes of the value that shows what memcached counts for an item
 
 
 class Full:
-    """A server with a budget, what it holds, and what that costs."""
+    """A server with a budget, its items, and their cost."""
 
     def __init__(self, program, words, asked):
         self.admin = None if is_memcached(program) else free_port()
@@ -65,7 +66,7 @@ class Full:
         return self.statistic("bytes") - cost_of(PROBE)
 
     def cells(self):
-        """The items, their cost, what is resident, and its ratios to the cost and to the budget."""
+        """The items, their cost, the resident memory, and its ratios to the cost and to the budget."""
         time.sleep(SECONDS_TO_REST)
         items, resident = self.statistic("curr_items"), self.server.memory()
         cost = self.statistic("bytes") - items * self.counts_more
@@ -80,13 +81,13 @@ class Full:
 
 
 def sizes_about(size, sigma, dice):
-    """Log-normal sizes of values without end, of which half are below a size."""
+    """Log-normal sizes of values without end, half of which are below a size."""
     drawn = (round(dice.lognormvariate(math.log(size), sigma)) for _ in range(DRAWN))
     return itertools.cycle([min(max(each, 1), LARGEST) for each in drawn])
 
 
 def churn(full, size, asked):
-    """Stores under drawn keys, so many times as many as fit. Gives how many were refused memory."""
+    """Stores under drawn keys, this many times as many as fit. Returns how many were refused memory."""
     dice = random.Random(asked.seed)
     sizes = sizes_about(size, asked.sigma, dice)
     mean = size * math.exp(asked.sigma**2 / 2)

@@ -1,13 +1,13 @@
 #!/usr/bin/env python3
-"""Measures how long a flush_all holds up the other connections of a server, and what a store after it costs.
+"""Measures how long a flush_all delays the other connections of a server, and the cost of a store after it.
 
 Usage: flush.py SERVER [--beside PROGRAM] [--items N] [--flushes N]
 
 SERVER is the built mc_serverd, beside Debian's memcached with one thread. Each is filled with N items (1,000,000) of 20 and 100
 bytes, and flushed; then it is filled again, and flushed again, five times. One connection sends the flush_all and another a get
-after it. Told are the milliseconds until the answer of that get, at the median and at most; the same for its next get; what one
-store costs the server while it is filled, by the clock of its process, for the first time and after a flush; and what it has
-resident when it is filled for the first time and for the last.
+after it. The table has the milliseconds until the answer of that get, at the median and at most, and those of its next get. It
+has the cost of one store while the server is filled, by the clock of its process, for the first time and after a flush, and the
+resident memory when it is filled for the first time and for the last.
 
 It prints a table in Markdown.
 """
@@ -33,7 +33,7 @@ GET = b"get key-%016d\r\n" % 0
 
 
 def told(connection, request, size):
-    """What is answered to a request, of so many bytes."""
+    """The answer to a request, of this many bytes."""
     connection.sendall(request)
     answer = b""
     while len(answer) < size:
@@ -45,7 +45,7 @@ def told(connection, request, size):
 
 
 def fill(server, items):
-    """Stores so many items, and gives back the nanoseconds of the server's process for each."""
+    """Stores this many items, and returns the nanoseconds of the server's process for each."""
     value = b"v" * VALUE_SIZE
     answer = b"STORED\r\n"
     before = server.processor_time()

@@ -1,8 +1,8 @@
 #!/usr/bin/env bash
-# Counts the instructions that a request costs, by valgrind's callgrind: the difference of two runs of `mc_tools bench case` of
-# different size, less that of two runs that only make what the client sends. It does not change with the machine's load.
+# Counts the instructions of a request, by valgrind's callgrind: the difference of two runs of `mc_tools bench case` of
+# different size, less that of two runs that only make the client's bytes. It does not change with the machine's load.
 #
-# Usage: instructions.sh [PROGRAM]      (crates/mc_tools/out/mc_tools, which is built where it is missing)
+# Usage: instructions.sh [PROGRAM]      (crates/mc_tools/out/mc_tools, which is built if it is missing)
 set -eu
 program=$(realpath "${1:-/}")
 if [ $# -eq 0 ]; then
@@ -16,7 +16,7 @@ instructions() {
     valgrind --tool=callgrind --callgrind-out-file=/dev/null "$program" bench "$@" 2>&1 > /dev/null | awk '/Collected/ { print $NF }'
 }
 
-# What one more costs, of the sizes of a kind, in these pieces.
+# The instructions of one more request, by the sizes of a kind, in these pieces.
 each() {
     local kind=$1 piece=$2 few=$3 many=$4
     local served=$(($(instructions case "$kind" "$many" "$piece") - $(instructions case "$kind" "$few" "$piece")))

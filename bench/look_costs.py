@@ -1,14 +1,14 @@
 #!/usr/bin/env python3
-"""Counts the instructions that a server's looks ahead take, by valgrind's callgrind, beside what bench/look_model.py says of them.
+"""Counts the instructions that a server's looks ahead take, by valgrind's callgrind, beside the figures of bench/look_model.py.
 
 Usage: look_costs.py SERVER [PATTERN ..]
 
-SERVER is the built mc_serverd. A pattern is a text that is sent again and again, so often that a piece has 14,000 bytes, or once; `\\n`,
-`\\r`, `\\\\` and `\\xNN` are bytes, `{..}*TIMES` is so often what stands between the braces. Without patterns there are some of its own. A
-row tells of each the instructions of the program's own code for one pattern, at a server of 1,000 items, which looks never, and at one of
-40,000: what the looks add, and what the model says that they add. Both hold the keys k0 to k999 and `k`, with values of 100 bytes, as the
-model has it that keys that begin with k are held. A count differs by some in a hundred with how the text comes, and with how full the
-table is: some 30 for each key.
+SERVER is the built mc_serverd. A pattern is a text that is sent repeatedly, until a piece has 14,000 bytes, or once; `\\n`, `\\r`, `\\\\`
+and `\\xNN` are bytes, and `{..}*TIMES` repeats the text between the braces. Without patterns there are some of its own. A row has for each
+the instructions of the program's own code for one pattern, at a server of 1,000 items, which never looks ahead, and at one of 40,000: what
+the looks add, and what they add by the model. Both store the keys k0 to k999 and `k`, with values of 100 bytes, since in the model keys
+that begin with k are stored. A count differs by some per cent with how the text arrives, and with how full the table is: some 30 for each
+key.
 """
 
 import argparse
@@ -49,7 +49,7 @@ class Costs:
         self.server, self.reader = pathlib.Path(server).resolve(), Reader()
 
     def instructions(self, text, items, times):
-        """Those of a server's whole life in which the text comes so often."""
+        """The instructions of a server's whole life in which the text arrives this often."""
         with tempfile.TemporaryDirectory() as folder:
             counted = Counted(pathlib.Path(folder), self.server, "")
             with Server(counted.script, BUDGET, MOST_ITEMS) as server:
@@ -64,7 +64,7 @@ class Costs:
         return count / TIMES / max(1, SIZE // len(text))
 
     def modelled(self, text):
-        """What the model says of looks and of serving, for one pattern."""
+        """The model's figures of looks and of serving, for one pattern."""
         sum = Stream(text, Look).sum(self.reader)
         return sum.looks / sum.bytes * len(text), sum.serving / sum.bytes * len(text)
 

@@ -1,19 +1,19 @@
 #!/usr/bin/env python3
-"""Searches for the stream on which a server's looks ahead cost the most beside the serving of its requests.
+"""Searches for the stream on which a server's looks ahead cost the most relative to the serving of its requests.
 
 Usage: look_model.py [--seconds S] [--seed N] [--shown N] [--without NAME,NAME ..] [--before]
 
-It is a model of the look, byte by byte (`Look`), and of what the reader takes (tests/lib/model.py). What both cost, in instructions,
-stands in `Costs`. The three words behind a storage command's key count as such, though the look finds them at once in a short line; that it
-tries this first in a longer line is not counted. A stream is some lines again and again, all there at once, or up to the end of a line.
-The search changes lines, their words and their order by the dice, keeps what is no cheaper, and begins anew where nothing was gained for
-long; it ends after S seconds (20). Shown are the dearest streams of N beginnings (5): what their looks cost beside their serving, and one
-round of their lines. No line has a command of --without.
+It is a model of the look, byte by byte (`Look`), and of what the reader takes (tests/lib/model.py). `Costs` has the cost of both, in
+instructions. The three words after a storage command's key count as words, though the look finds them at once in a short line; that it
+tries this first in a longer line is not counted. A stream is some lines repeatedly, all arrived at once, or up to the end of a line. The
+search changes lines, their words and their order by the dice, keeps what is no cheaper, and begins anew if nothing was gained for long; it
+ends after S seconds (20). It prints the most expensive streams of N beginnings (5): the cost of their looks relative to their serving, and
+one round of their lines. No line has a command of --without.
 
-On every stream that is tried the looks are to cost no more than `bound` says, by the bytes that came and the requests that were served.
-Where they cost more, the stream is shown, and the exit status is 1.
+On every stream that is tried the looks may cost at most `bound`, by the bytes that arrived and the requests that were served. If they cost
+more, the stream is printed, and the exit status is 1.
 
-With --before the look is that of commit 68ef589, which has no such bound: the search has to find streams like those that stopped it.
+With --before the look is that of commit 68ef589, which has no such bound: the search must find streams like those that stopped it.
 """
 
 import argparse
@@ -35,9 +35,9 @@ FEW_KEYS = 3  # fewer are not hashed
 SHORT_TEXT = 64  # with fewer bytes there is no look
 PASSES = 4  # requests at which no look begins after one that gained little; twice as many after each such look that follows it
 VAIN_PASSES, VAIN_BYTES = 4, 128  # at so many more for a line that is refused while a guess is left, and one more for so many bytes
-KEYS_TO_ONE_REFUSED = 8  # once such lines are more than one to so many keys of a look
+KEYS_TO_ONE_REFUSED = 8  # once such lines are more than one to this many keys of a look
 MOST_FLAGS = 64  # bytes in which a meta command's flag for base64 is looked for
-MOST_PASSES = 64  # at most at so many
+MOST_PASSES = 64  # at most at this many
 LONGEST_KEY, LONGEST_NAME, CODED_LIMIT, NUMBER = 250, 15, 336, 20
 RETRIEVALS, DATED = (b"get", b"gets"), (b"gat", b"gats")
 STORAGE = tuple(name.encode() for name in model.STORAGE)
@@ -51,9 +51,9 @@ LONGEST_TRY = 400  # changes without a gain
 
 
 class Costs(NamedTuple):
-    """Instructions, as bench/look_costs.py counts them on a proved build. Of a look: itself, and once more if keys are hashed; a byte and
-    a line that it reads, a byte of a line that is searched for words too long, a word that it splits, a key that it hashes and fetches, a
-    byte of that. Of serving: a request or fault, a byte of it, a key, a byte of that, a key that is held."""
+    """Instructions, as bench/look_costs.py counts them on a proved build. Of a look: itself, and once more if keys are hashed; a byte
+    and a line that it reads, a byte of a line that is searched for words too long, a word that it splits, a key that it hashes and
+    fetches, a byte of that. Of serving: a request or fault, a byte of it, a key, a byte of that, a key that is stored."""
 
     look: float = 450
     hashing: float = 65
@@ -77,18 +77,18 @@ COSTS = Costs()
 
 
 def is_held(key):
-    """Whether the cache holds an item of a key."""
+    """Whether the cache stores an item of a key."""
     return key.startswith(b"k")
 
 
 def is_coded(line):
-    """Whether the key of a meta command's line is in base64: its word is not what is looked up, and has no guess."""
+    """Whether the key of a meta command's line is in base64: its word is not the key that is looked up, and has no guess."""
     name, *words = line.split()
     return name in META and b"b" in words[1:]
 
 
 class Front(NamedTuple):
-    """The first request or fault of a text: where it ends, its keys, whether it is a fault, and whether its key is in base64."""
+    """The first request or fault of a text: its end, its keys, whether it is a fault, and whether its key is in base64."""
 
     end: int
     keys: tuple
@@ -101,7 +101,7 @@ class Front(NamedTuple):
 
 
 class Reader(model.Server):
-    """A server that holds nothing, and notes the keys of commands."""
+    """An empty server, which notes the keys of commands."""
 
     def __init__(self):
         super().__init__(1, 1 << 30, 1 << 20)
@@ -116,7 +116,7 @@ class Reader(model.Server):
         return self.items[0]
 
     def front(self, text, at):
-        """What is first from there on; none, if it is not whole."""
+        """The first request or fault from there on; None if it is not whole."""
         connection = self.connections[0]
         connection.unread, connection.output, connection.closed, self.keys = text[at:], b"", False, []
         self.turn(connection, 0)
@@ -130,7 +130,7 @@ class Reader(model.Server):
 
 
 class Seen(NamedTuple):
-    """What a look found: up to where it took lines, what it read and split, and the keys that it hashes."""
+    """The result of a look: how far it took lines, what it read and split, and the keys that it hashes."""
 
     end: int
     bytes: int
@@ -146,15 +146,16 @@ class Seen(NamedTuple):
         return cost + COSTS.hashing + COSTS.key * len(self.keys) + COSTS.key_byte * sum(map(len, self.keys))
 
     def pause(self, before):
-        """At how many requests no look begins after this one, if there were none at so many after the last that gained little."""
+        """At how many requests no look begins after this one, if there were none at this number after the last that gained little."""
         if sum(map(is_held, self.keys)) > len(self.keys) // 2:
             return 0
         return min(MOST_PASSES, max(PASSES, before * 2))
 
 
 class Kept(NamedTuple):
-    """What is kept of the last look: how many of the bytes in front it has read, at how many requests then none begins, at how many none
-    began after the last that gained little, of how many keys there are guesses, and how many of its lines may yet be refused free."""
+    """The state that the last look leaves: how many of the bytes in front it has read, at how many requests then none begins, at how
+    many none began after the last that gained little, for how many keys there are guesses, and how many of its lines may yet be refused
+    free."""
 
     bytes: int = 0
     passes: int = 0
@@ -177,7 +178,7 @@ class Look:
 
     @staticmethod
     def begins(front, last):
-        """Whether a look begins at a request, by what is kept of the last one."""
+        """Whether a look begins at a request, by the state that the last one left."""
         return last.bytes == 0 and last.passes == 0 and Look.has_guess(front)
 
     @staticmethod
@@ -193,7 +194,7 @@ class Look:
 
     @staticmethod
     def after(last, front, size):
-        """What is kept once a request was served."""
+        """The state once a request was served."""
         if front.is_faulty and last.guesses:
             more = 0 if last.spare else VAIN_PASSES + size // VAIN_BYTES
             passes = min(MOST_PASSES, last.passes + more)
@@ -242,7 +243,7 @@ class Look:
         self.keys.append(word)
 
     def take_meta_key(self):
-        """None in base64. The first flags are read for it. What is after the line is given."""
+        """Takes none in base64. The first flags are read for it. Returns the text after the line."""
         word, flags = self.word(CODED_LIMIT), self.place
         after = self.end_of_line()
         line = self.text[flags : min(after, flags + MOST_FLAGS)].rstrip(b"\r\n")
@@ -254,7 +255,7 @@ class Look:
         return after
 
     def end_of_line(self):
-        """What is after the line, in which no control byte comes from here on."""
+        """The text after the line, in which no control byte is from here on."""
         end = self.place
         while end < self.limit and self.text[end] > 31 and self.text[end] != 127:
             end += 1
@@ -272,7 +273,7 @@ class Look:
         return self.text[start : self.place]
 
     def take_keys(self):
-        """As many as there is room for, if no word of the line is too long for a key. What is after the line is given."""
+        """Takes as many as there is room for, if no word of the line is too long for a key. Returns the text after the line."""
         self.take_key(LONGEST_KEY)
         while self.byte() == 32:
             start = self.place
@@ -390,21 +391,21 @@ class LookBefore(Look):
         raise Ended
 
 
-# What a stream costs.
+# The cost of a stream.
 
 
 class Line(NamedTuple):
-    """A line of a stream, so many times. If the reader finds a length in it, a block of that size follows it. The word FAR is as many
-    bytes as there are up to the round's last line, if two are passed over behind them."""
+    """A line of a stream, this many times. If the reader finds a length in it, a block of that size follows it. The word FAR has as many
+    bytes as there are up to the round's last line, if two are passed over after them."""
 
     words: tuple
     times: int = 1
     filling: bytes = b"x"
     end: bytes = b"\n"
-    is_cut: bool = False  # The text up to here comes before the rest.
+    is_cut: bool = False  # The text up to here is before the rest.
 
     def texts(self, after):
-        """All copies, where so many bytes are between them and the last line."""
+        """All copies, if this many bytes are between them and the last line."""
         texts = []
         for _ in range(self.times):
             size = len(self.block([FAR_SIZE if word == FAR else word for word in self.words]))
@@ -444,24 +445,24 @@ class Sum(NamedTuple):
         return self.looks / self.serving if self.serving else 0
 
     def bound(self):
-        """What looks cost at most."""
+        """The most that looks cost."""
         return self.requests * most_by_request() + self.bytes * most_by_byte()
 
 
 def most_by_request():
-    """What looks cost at most for a request that is served: each begins at one, and ends in a line that it does not take."""
+    """The most that looks cost for a request that is served: each begins at one, and ends in a line that it does not take."""
     return COSTS.look + COSTS.hashing + COSTS.line
 
 
 def most_by_byte():
-    """What they cost at most for a byte beside that. None is in the lines of two looks, and none is hashed twice; one may be split twice,
-    in a line that is not taken, and as the request at which the next look begins. A line that is taken has three bytes at least, and a
-    word two with the space before it."""
+    """The most that they cost for a byte beside that. None is in the lines of two looks, and none is hashed twice; one may be split
+    twice, in a line that is not taken, and as the request at which the next look begins. A line that is taken has at least three bytes,
+    and a word two with the space before it."""
     return COSTS.byte + COSTS.long_byte + COSTS.key_byte + COSTS.line / 3 + COSTS.word + COSTS.key / 2
 
 
 class Stream:
-    """Lines again and again: the text from a place on is that from the same place of the first round on."""
+    """Lines repeatedly: the text from a place on is that from the same place of the first round on."""
 
     def __init__(self, round, kind, cuts=()):
         self.round, self.kind, self.cuts, self.fronts, self.looks = round, kind, cuts, {}, {}
@@ -483,7 +484,7 @@ class Stream:
         return self.fronts[at]
 
     def there(self, end):
-        """Up to where the text is there, once it is so far."""
+        """How far the text has arrived, once it is at this place."""
         if not self.cuts:
             return len(self.text)
         rounds, at = divmod(end - 1, self.size)
@@ -496,7 +497,7 @@ class Stream:
         return self.looks[at]
 
     def sum(self, reader):
-        """The sum of a stretch that comes again and again. It is empty if a request is never whole."""
+        """The sum of a stretch that repeats. It is empty if a request is never whole."""
         at, last, sum, seen = 0, Kept(), Sum(), {}
         while (at, last) not in seen:
             seen[at, last] = sum
@@ -600,7 +601,8 @@ class Search:
         return sum
 
     def climb(self, deadline):
-        """From a beginning to a stream that no change makes dearer for long. A change that costs a little is kept now and then."""
+        """Goes from a beginning to a stream that no change makes more expensive for long. A change that costs a little is kept now and
+        then."""
         lines = [self.line() for _ in range(self.dice.randrange(1, 4))]
         here = self.sum_of(lines)
         best, tries = (here, lines), 0
@@ -622,7 +624,7 @@ class Above(Exception):
 
 
 def shown(sum, lines):
-    """A stream in two lines or more: what it costs, and the lines of a round."""
+    """A stream in two lines or more: its cost, and the lines of a round."""
     told = [f"{sum.ratio():.2f}: looks {sum.looks:,.0f}, serving {sum.serving:,.0f}; {sum.bytes:,} bytes, {sum.requests:,} requests"]
     for line in lines:
         text = line._replace(times=1).texts(0)

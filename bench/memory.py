@@ -4,11 +4,11 @@
 Usage: memory.py SERVER [--beside PROGRAM] [--items N] [--sizes BYTES,BYTES ..] [--stores KIND,KIND]
 
 SERVER is the built mc_serverd, with each of its stores, beside Debian's memcached with one thread. Each is started anew for each size,
-and filled with N items (1,000,000) whose keys have 20 bytes, and whose values have 10, 100 or 1,000. Both hold all of them.
+and filled with N items (1,000,000) whose keys have 20 bytes, and whose values have 10, 100 or 1,000. Both store all of them.
 
-Told are what the process has resident before it is filled and after that; the difference for each item; and what the item costs of a
-budget, which is 64 bytes beside its key and value. What the table of the items has at the start is no part of the difference:
-the last column has all that the process takes, for each item. It prints a table in Markdown.
+The table has the resident memory of the process before it is filled and after that; the difference for each item; and the cost of the
+item in the budget, which is 64 bytes beside its key and value. The size of the items' table at the start is no part of the difference:
+the last column has all memory of the process, for each item. It is printed in Markdown.
 """
 
 import argparse
@@ -27,7 +27,7 @@ SIZES = "10,100,1000"
 
 
 def row(program, words, items, size):
-    """Fills a server, and tells what it takes."""
+    """Fills a server, and returns the row of its memory."""
     admin = None if is_memcached(program) else free_port()
     listening = ["--admin", f"{HOST}:{admin}"] if admin else []
     with Server(program, items * cost_of(size) * 11 // 10, items * 11 // 10, words=[*words, *listening]) as server:

@@ -1,6 +1,6 @@
 #!/usr/bin/env bash
-# Tells how many bytes of memory an item takes over the hashed store: all that `mc_tools bench hold` had resident at most with so many
-# items (1,000,000, or the first argument) of a key of 20 bytes and a value of 100, for each item. mc_tools must be built
+# Prints how many bytes of memory an item takes over the hashed store: the most that `mc_tools bench hold` had resident with 1,000,000
+# items (or the first argument) of a key of 20 bytes and a value of 100, for each item. mc_tools must be built
 # (`bench/run.sh`).
 set -e
 cd "$(dirname "$0")/../crates/mc_tools"

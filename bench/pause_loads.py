@@ -37,7 +37,7 @@ OPEN, EARLIER = b"?" * 14, b"!" * 14
 SAME_DIGITS = 100
 SIZES = 391  # values of `sizes` have 10 bytes and up to 390 more
 
-# Of four processors or more: which are whose.
+# With four processors or more: which processors belong to whom.
 PARTS = {"server": (0, 3), "proxy": (0,), "load": (1,), "watcher": (2,), "behind": (3,)}
 
 
@@ -62,7 +62,7 @@ class Waits:
 
 
 def keep(pid, part):
-    """Keeps a process (0: this one) on the processors of its part, where there are enough."""
+    """Keeps a process (0: this one) on the processors of its part, if there are enough."""
     cores = processors()
     if len(cores) >= 4:
         for thread in pathlib.Path(f"/proc/{pid or os.getpid()}/task").iterdir():
@@ -142,7 +142,7 @@ def template(mix, first):
 
 
 class Pipelines:
-    """Pipelines of requests for a server of so many items. Each stores keys that are larger than all before."""
+    """Pipelines of requests for a server of this many items. Each stores keys that are larger than all before."""
 
     def __init__(self, mix, items):
         self.mix, self.items = mix, items

@@ -3,14 +3,14 @@
 
 Usage: peak.py SERVER [--beside PROGRAM] [--clients N] [--size BYTES] [--stores KIND,KIND] [--words WORDS]
 
-SERVER is the built mc_serverd, beside Debian's memcached with one thread. N clients (1,000) each send a set of so many bytes (1,000,000),
-a piece of 64 KiB by turns, but for the last byte. Once the server has read all that, each sends the last byte, and awaits its answer.
-Three servers are tried: one whose budget holds all values; the same, which holds them already, so that each is stored anew; and one whose
-budget holds a twentieth of them, and which lets the others go.
+SERVER is the built mc_serverd, beside Debian's memcached with one thread. N clients (1,000) each send a set of BYTES bytes (1,000,000), a
+piece of 64 KiB in turn, except the last byte. Once the server has read all that, each sends the last byte, and waits for its answer. Three
+servers are tried: one whose budget holds all values; this one again, which stores them already, so that each is stored anew; and one whose
+budget holds a twentieth of them, and which evicts the others.
 
-Told are what the process has resident at the start of that, once all but the last bytes have come, and at the end; the most that it ever had;
-and the ratio of the most to the values. Wanted are at most 1.20 if the budget holds them. Refused is how many were answered that there
-is no memory. --words gives SERVER further options. It prints a table in Markdown.
+The table has the resident memory of the process at the start of that, once all but the last bytes have arrived, and at the end; the most that
+it ever had; and the ratio of the most to the values. The target is at most 1.20 if the budget holds them. Refused is how many were answered
+that memory is missing. --words gives SERVER further options. The table is printed in Markdown.
 """
 
 import argparse
@@ -30,8 +30,8 @@ from filling import NO_MEMORY, cost_of, store_of
 from servers import Server, connected
 
 PIECE = 65_536
-PATIENCE = 60  # seconds until a client gives its server up
-PART = 20  # of so many values a small budget holds one
+PATIENCE = 60  # seconds until a client gives up on its server
+PART = 20  # a small budget holds one of this many values
 QUIET = 0.25  # seconds in which a server that has read everything takes less than a hundredth of them
 
 
@@ -43,7 +43,7 @@ class Storing:
         self.left = memoryview(store_of(key, size))
 
     def send_piece(self):
-        """Sends the next piece, as far as the system takes it, and says whether the last byte alone is left."""
+        """Sends the next piece, as far as the system takes it, and returns whether only the last byte is left."""
         with contextlib.suppress(BlockingIOError):
             sent = self.connection.send(self.left[: min(PIECE, len(self.left) - 1)], socket.MSG_DONTWAIT)
             self.left = self.left[sent:]
@@ -70,7 +70,7 @@ def send_all_but_the_last_bytes(clients):
 
 
 def wait_until_quiet(server):
-    """Waits until a server has read what was sent to it."""
+    """Waits until a server has read the bytes that were sent to it."""
     before, spent = server.processor_time(), QUIET
     while spent > QUIET / 100:
         time.sleep(QUIET)
@@ -79,7 +79,7 @@ def wait_until_quiet(server):
 
 
 def stored_at_once(server, asked):
-    """Has all clients store their values. Gives the bytes that are resident once all but the last bytes have come, and the answers."""
+    """Lets all clients store their values. Returns the resident bytes once all but the last bytes have arrived, and the answers."""
     clients = [Storing(server.port, key, asked.size) for key in range(asked.clients)]
     try:
         send_all_but_the_last_bytes(clients)

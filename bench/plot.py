@@ -4,9 +4,9 @@
 Usage: plot.py [--check]
 
 A bar is a ratio, Wiersbol's figure over the other program's: of the processor time of a request, by case, and of memory. The thin line
-over its end is what the middle half of the rounds lie between. The figures themselves are beside it, and below them the dates on which
-they were measured, from the tables' column "Measured". The picture has colours for light and for dark pages. With --check nothing is
-written: the picture must be what the figures give, and the last line is 'N passed, M failed'.
+over its end shows the middle half of the rounds. The figures themselves are beside it, and below them the dates on which they were
+measured, from the tables' column "Measured". The picture has colours for light and for dark pages. With --check nothing is written:
+the picture must be the one that the figures give, and the last line is 'N passed, M failed'.
 """
 
 import argparse
@@ -20,8 +20,8 @@ DOCS = pathlib.Path(__file__).resolve().parent.parent / "docs"
 PAGE, PICTURE = DOCS / "PERF.md", DOCS / "figures.svg"
 
 WIDTH, MARGIN, ROW = 800, 20, 24
-BARS, UNIT, MOST = 262, 190, 1.5  # where bars begin, how long a ratio of 1 is, and the longest that is drawn
-RATIOS, OURS, THEIRS = 594, 690, WIDTH - MARGIN  # where these columns end
+BARS, UNIT, MOST = 262, 190, 1.5  # the beginning of bars, the length of a ratio of 1, and the longest that is drawn
+RATIOS, OURS, THEIRS = 594, 690, WIDTH - MARGIN  # the end of these columns
 STYLE = """
 text { font: 13px system-ui, 'Segoe UI', 'DejaVu Sans', sans-serif; fill: #1f2328 }
 .head { font-weight: 600 }
@@ -87,7 +87,7 @@ def numbers(cell):
 
 
 def first(cell):
-    """What a cell begins with, before what is said of it in brackets."""
+    """The beginning of a cell, before the text in brackets."""
     return cell.partition(" (")[0]
 
 
@@ -107,7 +107,7 @@ def memory(table, name, column, unit, programs):
 
 
 def groups(text):
-    """What is drawn: of each group its name, what it is beside, and its rows."""
+    """What is drawn: for each group its name, the program that it is compared with, and its rows."""
     server = table_of(text, "Case", "mc_serverd, ns", "memcached, ns", "Ratio")
     proxy = table_of(text, "Case", "mc_proxyd, ns", "nutcracker, ns", "Ratio")
     items = table_of(text, "1,000,000 items", "MB when empty")

@@ -1,6 +1,6 @@
 #!/usr/bin/env bash
-# Builds the benchmark (proving what is not proved yet), runs it in full, and prints bytes per second for each case.
-# Each case is run at full size and at a tenth of it: the time per byte is to be the same. Then it prints how fast a ring
+# Builds the benchmark (and proves it first, if needed), runs it in full, and prints bytes per second for each case.
+# Each case is run at full size and at a tenth of it: the time per byte should be equal. Then it prints how fast a ring
 # finds the owners of keys, and how fast a cache answers over each store.
 set -e
 cd "$(dirname "$0")/../crates/mc_tools"

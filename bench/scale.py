@@ -1,13 +1,13 @@
 #!/usr/bin/env python3
-"""Computes what the servers of a pool get: each one's share of the keys and of the requests, what moves when a server joins or leaves,
-what a lost server costs, connections, memory, processors and machines.
+"""Computes what the servers of a pool get: each one's share of the keys and of the requests, the keys that move when a server joins or
+leaves, the cost of a lost server, connections, memory, processors and machines.
 
 Usage: scale.py [--write | --check | --beside MC_SIM]
 
 It prints its tables. Those of ON_THE_PAGE are in docs/RUNNING.md: with --write each replaces the table there that begins with the same
-row, and the picture docs/scale_shares.svg is drawn. With --check it is seen that both are what would be written, and that the shares agree
-with the owners of single keys. With --beside, MC_SIM is the built mc_sim: it plays pools in which 2,000 keys are set, and its account has
-to name the owners that the model names. The last line of both is 'N passed, M failed'.
+row, and the picture docs/scale_shares.svg is drawn. --check compares both with what would be written, and the shares with the owners of
+single keys. With --beside, MC_SIM is the built mc_sim: it plays pools in which 2,000 keys are set, and its account must name the owners
+that the model names. The last line of both is 'N passed, M failed'.
 
 The ring is the model of tests/lib/rings.py. A server's share of the keys is the part of the circle before its points: it is exact for a
 great many keys. Its share of the requests is that of 1,000,000 keys by Zipf's law. Both depend on the addresses of the pool. So a
@@ -58,26 +58,26 @@ def nine_gets_to_a_set(get, put):
     return get * 0.9 + put * 0.1
 
 
-# What a request costs, by bench/serve.py on 2026-11-23: a get and a set, one at a time and 32 at a time, with keys of 20 bytes and values
+# The cost of a request, by bench/serve.py on 2026-11-23: a get and a set, one at a time and 32 at a time, with keys of 20 bytes and values
 # of 100. docs/RUNNING.md, "Planning for many servers", names these figures.
 COSTS_OF_A_POOL = {
     "one at a time": Cost(nine_gets_to_a_set(5_348, 5_681), nine_gets_to_a_set(10_305, 12_523)),
     "32 at a time": Cost(nine_gets_to_a_set(861, 1_118), nine_gets_to_a_set(2_423, 2_188)),
 }
 
-# How many times as much a request costs where few come together: bench/scale_load.py over 64 servers and 8 proxies, each server 1 or 2
-# in a hundred busy, beside 2 servers and 1 proxy in the same minutes, 2026-11-25.
+# How many times as much a request costs if few arrive together: bench/scale_load.py over 64 servers and 8 proxies, each server 1 or 2 per
+# cent busy, beside 2 servers and 1 proxy in the same minutes, 2026-11-25.
 FEW_TOGETHER = {"one at a time": Cost(3.0, 1.7), "32 at a time": Cost(4.8, 2.3)}
 
-# Bytes that a proxy has resident: at its start and for each link under load by bench/scale_load.py; for each client that sends 8 gets
-# at a time by bench/serve.py (500 clients), and for each that sends 100 sets at a time by bench/scale_load.py.
+# Bytes that a proxy has resident: at its start and for each link under load by bench/scale_load.py; for each client that sends 8 gets at a
+# time by bench/serve.py (500 clients), and for each that sends 100 sets at a time by bench/scale_load.py.
 START_OF_A_PROXY, LINK_OF_A_PROXY = 2_000_000, 6_500
 CLIENTS_OF_A_PROXY = {"8 gets at a time": 9_400, "100 sets at a time": 96_000}
 
-BUSY = 0.6  # as busy a processor is to be at most
+BUSY = 0.6  # the most that a processor should be busy
 PROCESSORS_OF_A_MACHINE = 16
 MOST_CONNECTIONS = 1_024  # of a server, and clients of a proxy
-BYTES_OF_A_REQUEST = nine_gets_to_a_set(167, 144)  # with its answer, without what the network adds
+BYTES_OF_A_REQUEST = nine_gets_to_a_set(167, 144)  # with its answer, without the network's overhead
 RATES = (1_000_000,)
 POOLS_OF_PROXIES = ((1, 8), (8, 64), (64, 64), (256, 64), (1_024, 64))
 
@@ -92,7 +92,7 @@ def servers_of(pool, count):
 
 @functools.cache
 def ring_of(pool, count):
-    """The ring of the first servers of a pool: of its ring of 64 servers the points that are theirs."""
+    """The ring of the first servers of a pool: those points of its ring of 64 servers that are theirs."""
     if count == MOST_SERVERS:
         return Ring(servers_of(pool, count))
     ring = Ring([])
@@ -110,9 +110,9 @@ def circle_up_to(hash):
 
 
 class Requests:
-    """What clients ask for: the key of a rank, from 1 on, is asked for as often as 1 / rank ** EXPONENT says.
+    """The requests of clients: the key of a rank, from 1 on, is asked for as often as 1 / rank ** EXPONENT says.
 
-    The hottest keys are where their hashes are. All others are so many, and each so rare, that they count as spread evenly.
+    The hottest keys are at their hashes. All others are so many, and each so rare, that they count as spread evenly.
     """
 
     def __init__(self):
@@ -138,7 +138,7 @@ def arcs(ring):
 
 
 def shares(ring, count, up_to):
-    """Each server's part of what is counted by `up_to`."""
+    """Each server's part of the whole, as `up_to` counts it."""
     parts, before = [0.0] * count, 0.0
     for last, place in arcs(ring):
         counted = up_to(last)
@@ -148,7 +148,7 @@ def shares(ring, count, up_to):
 
 
 class Pools:
-    """The shares of all pools of all sizes, and what follows of them."""
+    """The shares of all pools of all sizes, and the figures that follow from them."""
 
     def __init__(self):
         self.requests = Requests()
@@ -172,7 +172,7 @@ class Pools:
         return self.keys_of(pool, count)[-1]
 
     def growth(self, pool, count):
-        """By how much the one of the others grows most that takes over from the last one when it leaves the list."""
+        """By how much the server grows most that takes over from the last one when it leaves the list."""
         before, after = self.keys_of(pool, count), self.keys_of(pool, count - 1)
         return max(now / then for then, now in zip(before, after))
 
@@ -181,7 +181,7 @@ class Pools:
         return statistics.median(self.each(self.greatest, count))
 
     def hottest_ratio(self, count):
-        """The same of the requests."""
+        """How many times an even share of the requests the busiest server has, in the middle of the pools."""
         return statistics.median(self.each(self.busiest, count)) * count
 
 
@@ -298,7 +298,7 @@ def carried(cost, share):
 
 
 def to_two_digits(rate):
-    """A rate to two digits: no more of them mean anything."""
+    """A rate to two digits: no more of them are significant."""
     digits = 2 - len(str(round(rate)))
     return f"{round(rate, digits):,.0f}"
 
@@ -325,7 +325,7 @@ def table_of_pools(pools):
 
 
 def servers_for(pools, rate, cost):
-    """How many servers carry a rate of even keys; beyond 64 they are of several pools."""
+    """How many servers a rate of even keys needs; beyond 64 they are of several pools."""
     for count in SIZES:
         needed = math.ceil(rate * cost.server / 1e9 * pools.ratio(count) / BUSY)
         if needed <= count:
@@ -334,7 +334,7 @@ def servers_for(pools, rate, cost):
 
 
 def programs_for(pools, rate, cost):
-    """How many servers and how many proxies carry a rate."""
+    """How many servers and how many proxies a rate needs."""
     return servers_for(pools, rate, cost), math.ceil(rate * cost.proxy / 1e9 / BUSY)
 
 
@@ -376,7 +376,7 @@ ON_THE_PAGE = "hot keys", "pools", "machines"
 
 
 def place_of(lines, made):
-    """From which line to which the table is that begins with the same row; nowhere is an error."""
+    """The first and the last line of the table that begins with the same row; an error if there is none."""
     if made[0] not in lines:
         raise Wrong(f"no table begins with {made[0]}")
     start = end = lines.index(made[0])
@@ -420,7 +420,8 @@ def write(pools):
 
 
 def shares_are_those_of_single_keys(pools, count):
-    """A key is of the server whose part of the circle it is in. Without the last server it is of the same, or was the last one's."""
+    """A key belongs to the server whose part of the circle it is in. Without the last server it belongs to the same one, or was the
+    last one's."""
     whole, without = Ring(servers_of(0, count)), Ring(servers_of(0, count - 1))
     parts = arcs(ring_of(0, count))
     lasts = [last for last, _ in parts]
@@ -448,7 +449,7 @@ TAKEN = re.compile(r"^server (\d+), client 0, request (\d+), command 0, ", re.M)
 
 
 def program_names_the_same_owners(program, count):
-    """mc_sim's pools are of 127.0.0.1:11211 and the ports after it. Its account tells which server took the set of each key."""
+    """mc_sim's pools are of 127.0.0.1:11211 and the ports after it. Its account shows which server took the set of each key."""
     sets = [f"bytes 0 set {key_of(rank).decode()} 0 0 1\\r\\nx\\r\\n\ndrain 100" for rank in range(SAMPLE)]
     script = "\n".join([f"pool {count} 1 67108864 65536", *sets]) + "\n"
     told = subprocess.run([program, "--account"], input=script, capture_output=True, text=True, check=True).stdout

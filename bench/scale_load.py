@@ -5,11 +5,11 @@ Usage: scale_load.py SERVER PROXY [--servers N] [--proxies N] [--clients N] [--k
        (64 servers, 8 proxies, 50 clients of each proxy, 100,000 keys, 4 seconds of each load)
 
 SERVER is the built mc_serverd, PROXY the built mc_proxyd. Each client is a plain socket, and has keys of its own. So it knows each
-answer byte for byte, and looks at each: while all servers are there, while one is lost, and once it is back and empty. At the end each
+answer byte for byte, and checks each: while all servers are up, while one is lost, and once it is back and empty. At the end each
 server is asked for the keys that are its own by the model of the ring (tests/lib/rings.py).
 
-It prints two tables in Markdown: of each load what a request cost, and memory, files, and how long a loss and a return took. A cost is
-the processor time of all servers, or of all proxies, for a request. The last line is 'N passed, M failed'.
+It prints two tables in Markdown: for each load the cost of a request, and memory, files, and how long a loss and a return took. A cost
+is the processor time of all servers, or of all proxies, for a request. The last line is 'N passed, M failed'.
 """
 
 import argparse
@@ -57,7 +57,7 @@ class Pool:
         self.down = None  # the place of the server that is lost
 
     def all_answer(self, key, answer):
-        """Waits until each proxy gives this answer to a get of a key, and says how many seconds that took."""
+        """Waits until each proxy gives this answer to a get of a key, and returns how many seconds that took."""
         start = time.monotonic()
         for proxy in self.proxies:
             with proxy.connected() as client:
@@ -87,7 +87,7 @@ class Pool:
 
 
 class Client:
-    """A connection to a proxy, and keys that nobody else uses. `stored` has what each key holds, and None where it holds nothing."""
+    """A connection to a proxy, and keys that nobody else uses. `stored` has the value of each key, and None if it has none."""
 
     def __init__(self, pool, proxy, numbers, dice):
         self.pool, self.dice = pool, dice
@@ -132,7 +132,7 @@ class Client:
         self.socket.sendall(b"".join(asks))
 
     def is_answered(self):
-        """Reads what has come; whether it is all that is wanted. Anything else is an error."""
+        """Reads the bytes that have arrived; whether they are all that is expected. Anything else is an error."""
         piece = self.socket.recv(1 << 16)
         self.came += piece
         if not piece or len(self.came) > len(self.wanted):
@@ -144,7 +144,7 @@ class Client:
 
 
 def serve(clients, next_requests):
-    """Has each client send its next requests once the last ones are answered, until it has none. Gives their number."""
+    """Lets each client send its next requests once the last ones are answered, until it has none. Returns their number."""
     done, of = 0, {client.socket.fileno(): client for client in clients}
     with select.epoll() as poll:
 
@@ -171,7 +171,7 @@ def serve(clients, next_requests):
 
 
 def in_parts(client):
-    """What sets all keys of a client, some at a time."""
+    """The requests that set all keys of a client, some at a time."""
     for at in range(0, len(client.keys), KEYS_AT_ONCE):
         yield [client.set(key) for key in client.keys[at : at + KEYS_AT_ONCE]]
 
@@ -186,7 +186,8 @@ def processor_times(pool):
 
 
 def loaded(pool, clients, load, seconds):
-    """Loads the pool for so long, and gives a row: requests, those a second, what each cost, and how many were told of a loss."""
+    """Loads the pool for this long, and returns a row: requests, those a second, the cost of each, and how many were answered as
+    lost."""
     before, start, lost = processor_times(pool), time.monotonic(), sum(client.lost for client in clients)
     end = start + seconds
 
@@ -214,11 +215,11 @@ def keys_are_at_their_owners(pool, clients):
                 want(received(direct, len(answer)), answer)
 
 
-# What is told.
+# The tables.
 
 
 def megabytes(kind):
-    """The middle and the greatest of what some programs have resident."""
+    """The middle and the greatest resident memory of some programs."""
     each = [program.memory() / 1e6 for program in kind]
     return f"{statistics.median(each):.1f} MB (at most {max(each):.1f})"
 
@@ -250,7 +251,7 @@ class Trial:
         self.note(f"Memory of a proxy, {when}", megabytes(self.pool.proxies))
 
     def link(self):
-        """The memory of a link is what a new proxy over all servers has more than one over a single server."""
+        """The memory of a link: what a new proxy over all servers has more than one over a single server."""
         addresses, memories = self.pool.addresses, []
         for some in (addresses[:1], addresses):
             with Proxy(self.asked.proxy, some) as proxy, proxy.connected() as client:

@@ -1,4 +1,4 @@
-"""Draws the shares of the servers of pools: what bench/scale.py writes to docs/scale_shares.svg.
+"""Draws the shares of the servers of pools, which bench/scale.py writes to docs/scale_shares.svg.
 
 Each pool is a column, and each server in it two dots: its share of the keys, and its share of the requests, as multiples of an even
 share. The picture has colours for a light ground and for a dark one.
@@ -30,7 +30,7 @@ text { fill: #e6e9ed }
 
 
 def height_of(share, most):
-    """Where a share is drawn, from the top."""
+    """The height of a share, from the top."""
     return BOTTOM - (BOTTOM - TOP) * share / most
 
 

@@ -1,31 +1,29 @@
 #!/usr/bin/env python3
-"""Measures what a request costs a server, beside Debian's memcached with one thread; or a proxy, beside Debian's nutcracker.
+"""Measures the cost of a request in a server, beside Debian's memcached with one thread; or in a proxy, beside Debian's nutcracker.
 
 Usage: serve.py SERVER [--through PROXY] [--stores KIND,KIND] [--beside PROGRAM] [--cases NAME,NAME ..] [--seconds S] [--rounds N] [--free]
                 [--scrape] [--missed]
 
-SERVER is the built mc_serverd. It is measured with each of its stores, `table` and `lru`, or those of --stores. (memcached in its
-place measures memcached beside itself, with --stores table: all ratios are to be about 1.)
-Both servers are filled, and loaded in turn within one run: for each case many short rounds, each of both servers.
-The load is load.c, which is built by `cc -O2` into a temporary folder: it keeps a batch of requests of each connection
-outstanding and looks at every reply. Where there are two processors or more, both servers have one of their own and the
-load another. With --free nothing is kept on a processor, and two processes load, each by half of the connections: a figure counts if both
-ways show it.
+SERVER is the built mc_serverd. It is measured with each of its stores, `table` and `lru`, or those of --stores. (memcached in its place
+measures memcached beside itself, with --stores table: all ratios should be about 1.) Both servers are filled, and loaded in turn within one
+run: for each case many short rounds, each of both servers. The load is load.c, which is built by `cc -O2` into a temporary folder: it keeps a
+batch of requests of each connection outstanding and checks every reply. If there are two processors or more, both servers have one of their own
+and the load another. With --free nothing is kept on a processor, and two processes load, each by half of the connections: a figure counts if
+both ways show it.
 
-With --through, PROXY (the built mc_proxyd) is measured beside nutcracker (`distribution: ketama`, `hash: md5`): both are in
-front of the same two servers, which are SERVER's, on processors of their own where there are enough. What these servers spend
-on a request is told too, since a proxy may send them more or fewer commands.
+With --through, PROXY (the built mc_proxyd) is measured beside nutcracker (`distribution: ketama`, `hash: md5`): both are in front of the same
+two servers, which are SERVER's, on processors of their own if there are enough. The time that these servers spend on a request is printed too,
+since a proxy may send them more or fewer commands.
 
-With --scrape, SERVER (or PROXY) has a listener of operators, which is asked for /metrics once a second, as Prometheus would ask. A round
-has a second then. So `--beside SERVER --stores table --scrape` shows what a scrape costs, as a part of all that the server does. With --missed,
-PROXY has `--lost missed`: so `--through PROXY --beside PROXY --missed` shows what that choice costs.
+With --scrape, SERVER (or PROXY) has a listener of operators, which is asked for /metrics once a second, as Prometheus would ask. A round has a
+second then. So `--beside SERVER --stores table --scrape` shows the cost of a scrape, as a part of all that the server does. With --missed,
+PROXY has `--lost missed`: so `--through PROXY --beside PROXY --missed` shows the cost of that choice.
 
-What is measured is the processor time of the server's process, by its own clock, over the requests of a round: its own
-code and the kernel's work for it. How fast the load is matters little to that. A cost is the median of all rounds. A ratio is
-that of both costs of a round, since a machine that others use is not as fast at one second as at the next; told is the
-median of all rounds, and between what the middle half of them lie. Some cases are of other things: `memory` is what a
-million items take, or what a proxy has resident with 500 clients, and `flush` how long a `flush_all` of a million items holds
-up the other connections.
+The measure is the processor time of the server's process, by its own clock, over the requests of a round: its own code and the kernel's work
+for it. The speed of the load matters little. A cost is the median of all rounds. A ratio is that of both costs of a round, since a machine that
+others use is not as fast at one second as at the next; printed are the median of all rounds, and the middle half of them. Some cases measure
+other things: `memory` is the memory of a million items, or the resident memory of a proxy with 500 clients, and `flush` how long a `flush_all`
+of a million items delays the other connections.
 
 It prints tables in Markdown; docs/PERF.md has their rows.
 """
@@ -60,7 +58,7 @@ WANTED_BYTES_AN_ITEM = 190
 
 
 class Data(NamedTuple):
-    """What the servers are filled with."""
+    """The items that the servers are filled with."""
 
     keys: int = 100_000
     size: int = 100
@@ -76,7 +74,7 @@ class Case(NamedTuple):
 
 LARGE, MILLION = Data(10_000, 10_240), Data(1_000_000, 100)
 PAGES, FILES = Data(1_000, 102_400), Data(200, 512_000)
-CONNECTIONS = 50  # of a load, where no case says otherwise
+CONNECTIONS = 50  # of a load, if no case says otherwise
 CASES = [
     Case("get1", "get, one at a time", 0.92),
     Case("get32", "get, 32 at a time", 0.09, words="pipeline=32"),
@@ -127,7 +125,7 @@ class Load:
             pin(self.processes[-1].pid, processor)
 
     def tell(self, line):
-        """Gives each process a line, and gives back the requests that they made in all and the seconds that the slowest took."""
+        """Gives each process a line, and returns the requests that they made in all and the seconds that the slowest took."""
         for each in self.processes:
             each.stdin.write(line + "\n")
             each.stdin.flush()
@@ -155,7 +153,7 @@ class Scrapes:
         self.ended, self.thread = threading.Event(), threading.Thread(target=self.ask)
 
     def words(self):
-        """The words for the program that is asked."""
+        """The words for the program that is scraped."""
         return ["--admin", f"{HOST}:{self.port}"]
 
     def ask(self):
@@ -189,7 +187,7 @@ class Round(NamedTuple):
         return self.processor / self.requests * 1e9
 
     def cost_of_servers(self):
-        """What the servers behind a proxy spent on a request."""
+        """The time that the servers behind a proxy spent on a request."""
         return self.behind / self.requests * 1e9
 
 
@@ -201,8 +199,8 @@ def pin(pid, processor):
 
 
 def processors():
-    """Processors of as many cores as there are: the first is for what is measured, the second for the load, the others for
-    servers behind a proxy. There are none where there is one alone."""
+    """Processors of as many cores as there are: the first is for what is measured, the second for the load, the others for servers behind a
+    proxy. There are none if there is only one."""
     cores = {}
     for processor in sorted(os.sched_getaffinity(0), reverse=True):
         siblings = pathlib.Path(f"/sys/devices/system/cpu/cpu{processor}/topology/thread_siblings_list")
@@ -211,7 +209,7 @@ def processors():
 
 
 class Pair:
-    """Both servers, filled with the same."""
+    """Both servers, filled with the same items."""
 
     def __init__(self, bench, data):
         self.bench, self.data, self.behind = bench, data, []
@@ -259,7 +257,7 @@ class Pair:
         return Round(requests, took, processor, user_now - user, system_now - system, behind)
 
     def measure(self, case):
-        """The rounds of a case, of each of both; who comes first changes from round to round."""
+        """The rounds of a case, of each of both; which is first changes from round to round."""
         rounds = [[], []]
         with contextlib.ExitStack() as stack:
             loads = [stack.enter_context(self.load(each, case.words, self.bench.loops)) for each in self.measured]
@@ -292,7 +290,7 @@ class PairOfProxies(Pair):
 
 
 class Bench:
-    """The programs that are measured, and where."""
+    """The programs that are measured, and the processors that they run on."""
 
     def __init__(self, asked, folder, store):
         self.server, self.store, self.is_of_proxies = asked.server, store, asked.through is not None
@@ -310,7 +308,7 @@ class Bench:
         return self.processors[2] if len(self.processors) > 2 else None
 
     def words_of(self, program):
-        """The words for SERVER's store, where it is not the default."""
+        """The words for SERVER's store, if it is not the default."""
         return ["--store", self.store] if program == self.server and self.store != STORES[0] else []
 
     def pair(self, data):
@@ -346,7 +344,7 @@ def memory_rows(pair, names):
 
 
 def memory_rows_of_proxies(pair, names):
-    """What each has resident when it was started, while 500 clients load it by gets, and once they are gone."""
+    """The resident memory of each when it was started, while 500 clients load it by gets, and once they are gone."""
     for proxy, name, empty in zip(pair.measured, names, pair.empty):
         with pair.load(proxy, f"connections={MANY_CLIENTS} pipeline=8") as load:
             pair.round(proxy, load, 4 * WARM_UP)
@@ -412,7 +410,7 @@ def names_of(bench):
 
 
 def version_of(program):
-    """A version: what a server answers."""
+    """A version, as a server reports it."""
     with Server(program) as server:
         return f"{pathlib.Path(program).name} answers {server.version()}"
 

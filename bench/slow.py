@@ -1,5 +1,5 @@
 #!/usr/bin/env python3
-"""Measures what a proxy spends while many clients wait with long gets, and a server reads what is sent to it byte by byte.
+"""Measures the time of a proxy while many clients wait with long gets, and a server reads the bytes that are sent to it one by one.
 
 Usage: slow.py PROXY [--clients N] [--keys N] [--cases NAME,NAME ..] [--bytes N] [--segment BYTES] [--sets N] [--seconds S]
 
@@ -14,9 +14,9 @@ most. 400 clients (--clients) send a get of 4,000 keys each:
     others  all keys are of another server, which reads next to nothing, and on whose link as much is unsent as it may have. Another client
             sends as many sets to the slow one
 
-Told are the requests that were answered (of `others` the sets alone: the gets wait to the end), the time, the processor time of the proxy,
-that for each request that was answered, and its ratio to that with the server that reads at once; and how long another client, which
-asks for the version a hundred times a second, waited at most. It prints a table in Markdown.
+The table has the requests that were answered (of `others` the sets alone: the gets wait to the end), the time, the processor time of the
+proxy, that time for each request that was answered, and its ratio to that with the server that reads at once. It also has the longest wait of
+another client, which asks for the version a hundred times a second. It is printed in Markdown.
 """
 
 import argparse
@@ -39,7 +39,7 @@ from rings import Ring
 from servers import HOST, Proxy, connected, free_port
 
 SIZE_OF_A_SET = 10_000
-MARKING_SETS = 1_600  # so many bring a link to its mark of 8 MiB, beside what the system takes
+MARKING_SETS = 1_600  # this many fill a link up to its mark of 8 MiB, beside what the system takes
 SECONDS_TO_MARK = 1
 SMALLEST = 1  # bytes of a buffer: the system gives its least
 BEGINNING = "key-0000000000"
@@ -94,7 +94,7 @@ class Played:
 
 
 class Client:
-    """A client that sends a text, and awaits answers that are alike."""
+    """A client that sends a text, and awaits answers that are equal."""
 
     def __init__(self, proxy, text, answer, count):
         self.connection = proxy.connected()
@@ -105,7 +105,7 @@ class Client:
         return self.came // len(self.answer)
 
     def wants(self):
-        """What is awaited of its connection."""
+        """The events that its connection waits for."""
         writing = selectors.EVENT_WRITE if len(self.left) else 0
         return writing | (selectors.EVENT_READ if self.answered() < self.count else 0)
 
@@ -122,7 +122,7 @@ class Client:
 
 
 def exchange(clients, seconds):
-    """Has clients send and receive until all are answered, or the time is up."""
+    """Lets clients send and receive until all are answered, or the time is up."""
     end = time.monotonic() + seconds
     with selectors.DefaultSelector() as selector:
         for client in clients:
@@ -138,7 +138,7 @@ def exchange(clients, seconds):
 
 
 def watch(port, ended, told):
-    """Asks for the version until it is over, and tells the longest wait in milliseconds."""
+    """Asks for the version until it is over, and returns the longest wait in milliseconds."""
     longest = 0
     with connected(port, timeout=60) as connection:
         while not ended.is_set():
@@ -184,7 +184,7 @@ class Trial:
         return self.client(stack, one * count, ANSWERS[b"v"], count)
 
     def play(self):
-        """Plays the case, and gives the clients that are measured."""
+        """Plays the case, and returns the clients that are measured."""
         if self.case == "own":
             exchange(self.waiting, self.asked.seconds)
             return self.waiting
@@ -196,7 +196,7 @@ class Trial:
         return [self.storing]
 
     def prepare(self):
-        """What comes before the time is taken: of `others` a link at its mark, and clients that wait for it."""
+        """Prepares the case before the time is taken: of `others` a link at its mark, and clients that wait for it."""
         if self.marking:
             exchange([self.marking], SECONDS_TO_MARK)
             exchange(self.waiting, SECONDS_TO_MARK)

@@ -1,11 +1,11 @@
 #!/usr/bin/env python3
-"""Counts the instructions that a request on a socket costs a program's own code, by valgrind's callgrind.
+"""Counts the instructions of a program's own code for a request on a socket, by valgrind's callgrind.
 
 Usage: socket_instructions.py SERVER [--through PROXY] [--words WORD ..] [--cases NAME,NAME ..]
 
-The program (SERVER, the built mc_serverd, or PROXY in front of two of them) runs under callgrind, which load.c loads. A count is
-the difference of two runs of different length, by the difference of their requests: what the start and the filling take is in
-both. It does not change with the machine's load, but by some parts of a hundred with how many connections are ready at a time.
+The program (SERVER, the built mc_serverd, or PROXY in front of two of them) runs under callgrind, and load.c loads it. A count
+is the difference of two runs of different length, by the difference of their requests: the cost of the start and the filling is
+in both. It does not change with the machine's load, but by some per cent with how many connections are ready at a time.
 
 --words gives the program further options, in one text: --words '--store lru'. It prints a table in Markdown.
 """
@@ -32,7 +32,7 @@ NOT_COUNTED = {"million32", "get500"}
 
 
 class Counted:
-    """A program that is put under callgrind: a script in its place, and what callgrind said."""
+    """A program that runs under callgrind: a script in its place, and the output of callgrind."""
 
     def __init__(self, folder, program, words):
         self.said = folder / "said"
@@ -42,7 +42,7 @@ class Counted:
         self.script.chmod(0o755)
 
     def ended(self, listener):
-        """Ends the program, and gives its instructions."""
+        """Ends the program, and returns its instructions."""
         listener.process.send_signal(signal.SIGTERM)
         listener.process.wait()
         return int(COLLECTED.search(self.said.read_text())[1])

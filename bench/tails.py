@@ -5,14 +5,15 @@ Usage: tails.py SERVER [--through PROXY] [--beside PROGRAM] [--seconds S] [--rou
 
 SERVER is the built mc_serverd, beside Debian's memcached with one thread; with --through it is PROXY, the built mc_proxyd, beside
 Debian's nutcracker, both in front of the same two servers. Each is loaded in turn, N times (5) for S seconds (3), by load.c on 50
-connections: gets of held keys of 20 bytes, whose values have 100.
+connections: gets of stored keys of 20 bytes, whose values have 100.
 
-    closed loop  each connection sends its next request once the last is answered: told is also how many were answered in a second
+    closed loop  each connection sends its next request once the last is answered; the table has the answers in a second, too
     open loop    requests fall due at half of the rate that the other program answered in its closed loop, the same for both; a request
                  waits from the moment at which it falls due
 
-A figure is the median of the rounds, in microseconds; the slowest is that of all rounds. Where there are two processors or more, what is
-measured has one of its own and the load another. --words gives SERVER, or PROXY, further options. It prints a table in Markdown.
+A figure is the median of the rounds, in microseconds; the slowest is that of all rounds. If there are two processors or more, the
+program that is measured has one of its own and the load another. --words gives SERVER, or PROXY, further options. The output is a table
+in Markdown.
 """
 
 import argparse
@@ -35,10 +36,10 @@ DATA = Data()
 
 
 class Tails(Load):
-    """The load program, which tells how long requests waited."""
+    """The load program, which reports how long requests waited."""
 
     def waits(self, seconds):
-        """The requests of a second, and within which microseconds half of the replies came, 99 and 99.9 in a hundred, and all."""
+        """The requests of a second, and the microseconds within which half of the replies arrived, 99 and 99.9 per cent, and all."""
         self.processes[0].stdin.write(f"wait {seconds}\n")
         self.processes[0].stdin.flush()
         requests, took, *waits = map(float, self.processes[0].stdout.readline().split())
@@ -68,7 +69,7 @@ def started(stack, asked, cores):
 
 
 def rounds_of(load, both, cores, asked, words):
-    """The rounds of each program: who comes first changes from round to round."""
+    """The rounds of each program: which is first changes from round to round."""
     rounds = [[], []]
     with contextlib.ExitStack() as stack:
         core = cores[1] if cores else None

@@ -1,15 +1,15 @@
 #!/usr/bin/env python3
-"""Measures what a request costs a pool on threads, beside the same pool on one thread.
+"""Measures the cost of a request in a pool on threads, beside the same pool on one thread.
 
 Usage: threads.py PROGRAM [--requests N] [--servers N,N ..] [--rounds N]
 
 PROGRAM is the built mc_tools, of which `threads` plays N gets and sets of 8 clients over 1, 2 and 4 servers: `threads` with a thread for each
-server and one for the proxy, `one` with all of them on one thread, and `load`, which only makes what the clients send. The three take
-turns within each round.
+server and one for the proxy, `one` with all of them on one thread, and `load`, which only makes the clients' texts. The three take turns
+within each round.
 
-A cost is the processor time of the process, its own code and the kernel's work for it, less that of `load`, over the requests. The rate
-is of the time from start to end, less that of `load`. Both are medians of all rounds; a ratio is that of both costs of a round, and told is
-the median, and between what the middle half of them lie.
+A cost is the processor time of the process, its own code and the kernel's work for it, less that of `load`, over the requests. The rate is
+computed from the time from start to end, less that of `load`. Both are medians of all rounds; a ratio is that of both costs of a round, and
+printed are the median and the middle half of them.
 
 It prints a table in Markdown.
 """
@@ -34,7 +34,7 @@ class Run(NamedTuple):
 
 
 def run_of(program, how, servers, requests):
-    """One run: the seconds from start to end, and those of a processor. All requests are to be answered."""
+    """One run: the seconds from start to end, and those of a processor. All requests must be answered."""
     start = time.perf_counter()
     process = subprocess.Popen([program, "threads", how, str(servers), str(requests)], stdout=subprocess.PIPE)
     told = process.stdout.read().decode()
@@ -49,7 +49,7 @@ def run_of(program, how, servers, requests):
 
 
 def round_of(program, servers, requests, number):
-    """What `threads` and `one` took beyond `load`; who comes first changes from round to round."""
+    """The time of `threads` and `one` beyond that of `load`; which is first changes from round to round."""
     hows = HOWS if number % 2 == 0 else HOWS[::-1]
     runs = {how: run_of(program, how, servers, requests) for how in hows}
     load = runs["load"]

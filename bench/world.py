@@ -1,5 +1,5 @@
 #!/usr/bin/env python3
-"""Writes a pool script of many events, to see what a step of a world costs: `world.py 1000000 | mc_sim > /dev/null`.
+"""Writes a pool script of many events, to measure the cost of a world's step: `world.py 1000000 | mc_sim > /dev/null`.
 
 Usage: world.py EVENTS [LOST]      (LOST: after each so many rounds a link is lost and comes back; 0, the default, is never)
 

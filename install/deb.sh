@@ -83,7 +83,7 @@ install -m 644 README.md docs/RUNNING.md docs/PROTOCOL.md docs/SCRIPTS.md "$docu
 find "$root/usr/share/man" "$documents" -type f ! -name copyright -exec gzip -9n {} +
 install -m 644 install/dashboard.json install/alerts.yml "$documents"
 
-# The files that belong to Debian's tools: dependencies, control, settings, sums, and what runs when the package comes and goes.
+# The files that belong to Debian's tools: dependencies, control, settings, sums, and the scripts of installation and removal.
 mkdir -p "$work/debian" "$root/DEBIAN"
 cp install/debian/control "$work/debian/control"
 (

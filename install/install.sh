@@ -1,6 +1,6 @@
 #!/usr/bin/env bash
 # Puts built programs, their manual pages, the systemd units and the script that these call below a folder. The units name both below PREFIX,
-# which is another folder than the first where the files are packed.
+# which is another folder than the first if the files are packed.
 #
 # Usage: install.sh FOLDER PREFIX PROGRAM..
 set -eu

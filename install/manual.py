@@ -1,5 +1,5 @@
 #!/usr/bin/env python3
-"""Writes the manual page of a built program, whose options are those that it tells itself (--help).
+"""Writes the manual page of a built program, with the options that its --help lists.
 
 Usage: manual.py PROGRAM > PAGE
 """
@@ -9,7 +9,7 @@ import re
 import subprocess
 import sys
 
-# What a page says beside the options: what the program is, its description, its exit statuses, and its other pages.
+# The parts of a page beside the options: what the program is, its description, its exit statuses, and its other pages.
 SERVES = {
     0: "after --check or --version, or after as many connections as --accept says",
     1: "the line of --check cannot be written",
@@ -54,13 +54,13 @@ PAGES = {
 
 
 def escaped(text):
-    """A text as troff takes it."""
+    """A text escaped for troff."""
     text = text.replace("\\", "\\e").replace("-", "\\-").replace("'", "\\(aq")
     return re.sub(r"^([.'])", r"\\&\1", text, flags=re.M)
 
 
 def options_of(help_text):
-    """The options and arguments of a text of help, each with what is said of it."""
+    """The options and arguments of a text of help, each with its explanation."""
     for line in help_text.splitlines():
         words = re.fullmatch(r"\s{2,}(\S.*?)\s{2,}(\S.*)", line)
         if words:

@@ -4,7 +4,7 @@
 # Usage: release.sh [GATE [PROGRAM..]]      (no gate; mc_serverd mc_proxyd mc_sim)
 #        release.sh --unchanged
 #
-# GATE is a file with what `make test` printed on this commit. PROVED names the commit, what `rt version` prints, the gate's last line, and
+# GATE is a file with the output of `make test` on this commit. PROVED has the commit, the output of `rt version`, the gate's last line, and
 # the sums of the programs as they were built. A tree with uncommitted changes is refused, and a gate that failed. --unchanged only looks at
 # the tree.
 # The archive unpacks into /usr/local: tar -xzf ARCHIVE -C /usr/local --strip-components=1. The same programs give the same bytes.

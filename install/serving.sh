@@ -4,9 +4,9 @@
 #
 # Usage: serving.sh HOST:PORT      (MAINPID is the program's process, as systemd sets it)
 #
-# It asks for the version, ten times a second. The status is 1 if the process is gone, as one that had no memory for its table. A process
-# that is still there after 30 seconds counts as started too: if it is full of clients, it serves them and not this one. To fail then would
-# have systemd end it, with its items.
+# It asks for the version, ten times a second. The status is 1 if the process is gone, such as one that had no memory for its table. A process
+# that still runs after 30 seconds counts as started too: if it is full of clients, it serves them and not this one. If the script failed
+# then, systemd would end the process, with its items.
 address=$1
 trap '' PIPE
 

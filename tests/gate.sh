@@ -7,7 +7,7 @@ cd "$(dirname "$0")/.."
 passed=0
 failed=0
 
-# Runs a part and prints what it writes, but its last line 'N passed, M failed', which is added.
+# Runs a part and prints its output, except its last line 'N passed, M failed', which is added.
 add() {
     local counts= line status
     "$@" 2>&1 | while IFS= read -r line; do

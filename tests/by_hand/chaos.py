@@ -1,30 +1,31 @@
 #!/usr/bin/env python3
-"""Does to a pool what a network and its machines may do to it, and sees that every answer is right.
+"""Does to a pool what a network and its machines may do to it, and checks that every answer is right.
 
 Usage: chaos.py PROXY SERVER [--seconds N] [--seed N] [--clients N] [--kinds WORD] [--rest N] [--verbose]
                                                         (75 seconds, seed 1, 12 clients, all kinds, 30 seconds of rest)
 
 PROXY is the built mc_proxyd, SERVER the built mc_serverd. Three servers, two proxies and three hosts of clients each have a network
-namespace (tests/lib/network.py says what that needs). The first proxy has `--timeout 0`, the second `--timeout 1000`. One fault after the
-other is made, of each kind equally often: KINDS below. --kinds takes those whose name has this word. A fault lasts up to two seconds;
-the next begins once each server that it touched answers again through each proxy that it touched.
+namespace (tests/lib/network.py says what that needs). The first proxy has `--timeout 0`, the second `--timeout 1000`. Faults are made in
+sequence, of each kind equally often: KINDS below. --kinds takes those whose name has this word. A fault lasts up to two seconds; the next
+begins once each server that it touched answers again through each proxy that it touched.
 
-Each client knows which answers are right (tests/lib/checked_clients.py). The script ends with status 1, and says what came, where
+Each client knows which answers are right (tests/lib/checked_clients.py). The script ends with status 1, and prints the bytes that
+arrived, if
 
 - an answer is wrong, missing, or one too many;
-- a command is said to be lost, and no fault touched the server of its keys and the client's proxy;
+- a command is reported lost, and no fault touched the server of its keys and the client's proxy;
 - a client's connection is closed, and no fault reset it, or ended its host or its proxy;
-- an answer does not come within 30 seconds, or a server is not used again within 20;
-- with all clients gone, and so many seconds of rest, a program has more sockets than at its start. Those are not counted whose peers
-  vanished without a word; they are printed.
+- an answer does not arrive within 30 seconds, or a server is not used again within 20;
+- with all clients gone, and after the seconds of --rest, a program has more sockets than at its start. Sockets whose peers vanished
+  silently are not counted; they are printed.
 
 For each kind it prints how many
 
     faults        were made
     answered      requests were answered, each right
-    link lost     requests were told `SERVER_ERROR link lost`
+    link lost     requests were answered `SERVER_ERROR link lost`
     unanswered    requests got no answer, since the client's connection ended
-    late          commands were told lost, or unanswered, and were done after a newer one was answered (that is allowed)
+    late          commands were reported lost, or unanswered, and were done after a newer one was answered (that is allowed)
     wrong         clients met something wrong, or waited too long
     closed        connections of clients ended by a fault that resets them, or ends their host or proxy
     closed by it  connections of clients were closed by another fault
@@ -66,14 +67,14 @@ CALM = 0.3  # seconds between faults, at most
 
 
 class Client(checked_clients.Client, threading.Thread):
-    """A client on a host, that connects to any proxy where its connection has ended."""
+    """A client on a host, which connects to any proxy if its connection has ended."""
 
     def __init__(self, run, number):
         checked_clients.Client.__init__(self, f"c{number}", f"{run.seed} {number}", run.ring, run.lives, KEYS_AT_A_SERVER, True)
         threading.Thread.__init__(self, daemon=True)
         self.run_of, self.place, self.error = run, number % CLIENT_HOSTS, None
         self.by_kind = collections.defaultdict(collections.Counter)
-        self.good_at = 0  # when it last had a good answer
+        self.good_at = 0  # the time of its last good answer
         self.connect(number % len(PROXY_WORDS))
 
     def connect(self, proxy):
@@ -137,7 +138,7 @@ class Run:
         self.ring, self.lives = Ring(self.addresses), [Lives() for _ in self.addresses]
         self.troubles = [[Trouble() for _ in self.addresses] for _ in PROXY_WORDS]
         self.lines = [[Trouble() for _ in PROXY_WORDS] for _ in self.client_hosts]
-        self.gone = collections.Counter()  # when a machine at either end of a line was last gone with its connections
+        self.gone = collections.Counter()  # when a machine at either end of a line last vanished with its connections
         self.servers, self.proxies = [None] * SERVERS, [None] * len(PROXY_WORDS)
         stack.callback(self.stop)
         for place in range(SERVERS):
@@ -167,7 +168,7 @@ class Run:
         return host.connected(self.proxy_hosts[proxy].address, PORT, PATIENCE)
 
     def sockets(self):
-        """How many descriptors each program has."""
+        """The number of descriptors of each program."""
         named = (*((f"server {at}", it) for at, it in enumerate(self.servers)), *((f"proxy {at}", it) for at, it in enumerate(self.proxies)))
         return {name: settles(it.descriptors) for name, it in named}
 
@@ -212,7 +213,7 @@ class Run:
     @contextlib.contextmanager
     def fault_on(self, paths=(), lines=(), of_clients=None):
         """A fault that touches paths from proxies to servers, or lines from hosts of clients to proxies: it is made, and ended, within
-        the block. Then those that it touched come back."""
+        the block. Then those that it touched recover."""
         troubles = [self.troubles[proxy][server] for proxy, server in paths] + [self.lines[place][proxy] for place, proxy in lines]
         for each in troubles:
             each.begins()
@@ -225,7 +226,7 @@ class Run:
             each.ends()
 
     def give_up(self, lines):
-        """Clients give up connections whose other end, or whose own machine, is gone: they might wait for ever."""
+        """Clients give up connections whose other end, or whose own machine, has vanished: they might wait for ever."""
         for line in lines:
             self.gone[line] = time.monotonic()
         for client in self.clients:
@@ -245,10 +246,10 @@ class Run:
             if program.process.poll() is not None:
                 raise Wrong(f"{program.program} ended, with status {program.process.poll()}")
 
-    # The whole.
+    # The whole run.
 
     def all_rest(self, are_idle=True):
-        """A block in which no client asks for anything, where they are to be idle."""
+        """A block in which no client asks for anything, if they should be idle."""
         return self.pause.all_rest(len(self.clients), self.look_at_clients) if are_idle else contextlib.nullcontext()
 
     def make_faults(self, kinds, seconds):
@@ -270,8 +271,8 @@ class Run:
                 self.look_at_clients()
 
     def rest(self, seconds):
-        """Ends the clients, and waits until no program has more sockets than at its start, but at most so long. Gives how many more each
-        has, and how long that took."""
+        """Ends the clients, and waits until no program has more sockets than at its start, but at most this long. Returns how many
+        more each has, and how long that took."""
         self.kind, self.ended = "no fault", True
         for client in self.clients:
             client.join(PATIENCE)
@@ -333,7 +334,7 @@ def server_stops(run):
 
 
 def server_ends(boots=False, are_idle=False):
-    """It is killed, or its machine is gone with all connections, and is back: then nobody is told."""
+    """It is killed, or its machine vanishes with all connections, and is back: then nobody is notified."""
 
     def make(run):
         server = run.dice.randrange(SERVERS)
@@ -405,7 +406,7 @@ def client_is_reset(at_client):
 
 
 def clients_end(are_idle=False):
-    """Their machine is gone with all connections, and is back."""
+    """Their machine vanishes with all connections, and is back."""
 
     def make(run):
         place = run.dice.randrange(CLIENT_HOSTS)
@@ -454,7 +455,7 @@ KINDS = {
 }
 
 
-# What is printed.
+# The output.
 
 
 COLUMNS = {"answered": 11, "link lost": 11, "unanswered": 12, "late": 6, "wrong": 7, "closed": 8, "closed by it": 14}
@@ -502,7 +503,7 @@ def given_words():
 
 
 def made(asked, stack):
-    """Makes the faults, and prints what came of them. Gives the exit status."""
+    """Makes the faults, and prints the results. Returns the exit status."""
     run, left, seconds, why = Run(asked, stack), None, 0, []
     try:
         run.make_faults({name: make for name, make in KINDS.items() if asked.kinds in name}, asked.seconds)

@@ -1,15 +1,14 @@
 #!/usr/bin/env python3
-"""Fills a server in a control group of memory, and says what becomes of it (docs/DEVELOPING.md has the figures).
+"""Fills a server in a control group of memory, and reports what happens to it (docs/DEVELOPING.md has the figures).
 
 Usage: control_group.py SERVER [--budget MEGABYTES]      (SERVER is the built mc_serverd; 128 MiB unless it is given)
 
-The group is made for this, below the group that this script is in, or in a mount of its own, and is taken away at the end. Only servers
-that this script has started are put into it. The server has --memory-exit 10. Values of 100 bytes are stored under new keys, then of 5,000,
-then of 10,000, each until half as much again as the budget was sent. It is tried with two limits: what the server says at its start that
-it may take, and the budget. For each size a line has what the client was answered, the group's memory and the kernel's count of kills.
-With the higher limit the server has to stay and store; with the lower one it has to be killed by the kernel, or to end with status 4, and
-to be served again when it is started anew. The last line is 'N passed, M failed'. If the machine gives no control group of memory, one line
-says so, and the status is 3.
+The group is made for this, below the group that this script is in, or in a mount of its own, and is removed at the end. Only servers that this
+script has started are put into it. The server has --memory-exit 10. Values of 100 bytes are stored under new keys, then of 5,000, then of 10,000,
+each until half as much again as the budget was sent. Two limits are tried: what the server says at its start that it may take, and the budget.
+For each size a line has the client's answers, the group's memory and the kernel's count of kills. With the higher limit the server must stay and
+store. With the lower one the kernel must kill it, or it must end with status 4, and serve again when it is started anew. The last line is 'N
+passed, M failed'. If the machine has no control group of memory, one line says so, and the status is 3.
 """
 
 import argparse
@@ -31,15 +30,15 @@ from suite import are_built, counted
 SIZES = (100, 5_000, 10_000)
 MEGABYTE = 1 << 20
 NO_MEMORY = b"SERVER_ERROR out of memory storing object\r\n"
-BESIDE = 8 * MEGABYTE  # for the program itself and a client, beside what the server says
-PATIENCE = 30  # seconds until a server that cannot store is given up
+BESIDE = 8 * MEGABYTE  # for the program itself and a client, beside the server's own figure
+PATIENCE = 30  # seconds until the script gives up on a server that cannot store
 NO_GROUP = 3
 SAID = re.compile(r"mc_serverd: may take ([0-9.]+) (MB|GB): .*")
 UNITS = {"MB": 10**6, "GB": 10**9}
 
 
 class NoGroup(Exception):
-    """Why the machine gives no control group."""
+    """Why the machine has no control group."""
 
 
 # The files of a group, by the version of Linux's control groups.
@@ -76,7 +75,7 @@ class Group:
         self.write("cgroup.procs", os.getpid())
 
     def number(self, what):
-        """A number of bytes that it gives, or 0."""
+        """A number of bytes in one of its files, or 0."""
         try:
             return int((self.folder / self.files[what]).read_text())
         except (OSError, ValueError):
@@ -88,7 +87,7 @@ class Group:
         return int(found[1]) if found else 0
 
     def remove(self):
-        """Takes it away, once the system has freed what was in it."""
+        """Removes it, once the system has freed its memory."""
         for _ in range(100):
             with contextlib.suppress(OSError):
                 self.folder.rmdir()
@@ -106,7 +105,7 @@ def own_group(memory_of_one):
 
 
 def mounted(memory_of_one):
-    """Where the tree of groups is mounted, or None."""
+    """The mount point of the tree of groups, or None."""
     for line in pathlib.Path("/proc/self/mounts").read_text().splitlines():
         _, place, kind, options = line.split()[:4]
         if kind == "cgroup" and "memory" in options.split(",") if memory_of_one else kind == "cgroup2":
@@ -148,7 +147,7 @@ def tree():
 
 
 def start(program, budget, group=None):
-    """A server, in a group if one is given, that says what it may take."""
+    """A server, in a group if one is given, which reports how much memory it may take."""
     port = free_port()
     words = ["--listen", f"{HOST}:{port}", "--budget", str(budget), "--items", "auto", "--memory-exit", "10", "--log"]
     process = subprocess.Popen(
@@ -158,7 +157,7 @@ def start(program, budget, group=None):
 
 
 class Started(Listener):
-    """A server that was started, and says on its first line where it listens."""
+    """A server that was started, and whose first line says where it listens."""
 
     def __init__(self, process, program, port):
         self.process, self.program, self.port, self.on = process, program, port, None
@@ -170,14 +169,14 @@ class Started(Listener):
             raise
 
     def said(self):
-        """What it has said until it ended."""
+        """Its lines until it ended."""
         self.process.stdout.close()
         text = self.process.stderr.read().decode()
         return [line.split(" ", 1)[-1] for line in text.splitlines()]
 
 
 def memory_said(program, budget):
-    """How much a server with this budget says that it may take, in bytes."""
+    """How much memory a server with this budget says that it may take, in bytes."""
     with start(program, budget) as server:
         server.process.terminate()
         found = next(filter(None, map(SAID.fullmatch, server.said())), None)
@@ -193,7 +192,7 @@ class Client:
         self.server, self.client, self.number = server, None, 0
 
     def batch(self, size):
-        """Stores some, and gives how many were stored, refused by a line, and whether the connection was closed."""
+        """Stores some, and returns how many were stored, refused by a line, and whether the connection was closed."""
         count = max(1, 100_000 // size)
         value = b"v" * size
         first, self.number = self.number, self.number + count
@@ -230,7 +229,7 @@ class Client:
 
 
 def filled(program, budget, group):
-    """Fills a server in a group, prints what is seen, and gives how it ended (None: it stays), what it said, and whether it stored to the end."""
+    """Fills a server in a group, and prints the results. Returns how it ended (None: it stays), its lines, and whether it stored to the end."""
     stored = 0
     with start(program, budget, group) as server:
         client = Client(server)
@@ -252,7 +251,7 @@ def filled(program, budget, group):
 
 
 def tried(program, budget, version, parent, name, limit, has_to_stay):
-    """Tries a limit, and says whether all was as it has to be."""
+    """Tries a limit, and returns whether all was as expected."""
     group = Group(version, parent, limit)
     try:
         print(f"{name}: budget {budget / 10**6:.1f} MB, limit {limit / 10**6:.1f} MB", flush=True)

@@ -1,16 +1,16 @@
 #!/usr/bin/env python3
 """Cuts the network between a proxy and its server, and between clients and a server.
 
-Usage: cuts.py PROXY SERVER [--cuts N]      (N cuts with a store each, 5 unless it is said)
+Usage: cuts.py PROXY SERVER [--cuts N]      (N cuts with a store each, 5 by default)
 
 Two hosts have a network namespace each, and the script carries their packets (tests/lib/network.py says what that needs). In a cut packets
-vanish, and neither side is told. What is seen:
+vanish, and neither side is notified. It checks:
 
 - a store that is answered 'link lost' at a cut never overwrites one that is answered STORED after it;
-- a proxy gives up a server that is gone without a word, with no command pending and with one, and says so;
-- a server closes a client that is gone without a word.
+- a proxy gives up on a server that has vanished silently, with no command pending and with one, and reports it;
+- a server closes a client that has vanished silently.
 
-It prints what it saw, and ends with status 1 where something else came.
+It prints the results, and ends with status 1 if one was another.
 """
 
 import argparse
@@ -53,7 +53,7 @@ class Site:
 
 
 def asked(connection, text):
-    """The line that comes for a request."""
+    """The line that arrives for a request."""
     connection.sendall(text)
     came = b""
     while not came.endswith(b"\n"):
@@ -72,7 +72,7 @@ def store_in_time(client, value, seconds=60):
 
 
 def stale_stores(site, cuts):
-    """Whether after none of these cuts the older store stands."""
+    """Whether after none of these cuts the older store remains."""
     stale, waits = 0, []
     for number in range(cuts):
         seconds = CUTS[number % len(CUTS)]
@@ -98,7 +98,7 @@ def stale_stores(site, cuts):
 
 
 def line_in_time(proxy, seconds):
-    """The next line on standard error, and after how many seconds it came."""
+    """The next line on standard error, and after how many seconds it arrived."""
     begun, stderr = time.monotonic(), proxy.process.stderr
     if not select.select([stderr], [], [], seconds)[0]:
         return "", seconds
@@ -106,7 +106,7 @@ def line_in_time(proxy, seconds):
 
 
 def vanished_servers(site):
-    """Whether a proxy notices in time a server that is gone, with nothing pending and with a command."""
+    """Whether a proxy notices in time a server that has vanished, with nothing pending and with a command."""
     good = True
     for pending in (False, True):
         with site.server() as server, site.proxy(server, "--timeout", "0") as proxy, site.near_client(proxy) as client:
@@ -122,7 +122,7 @@ def vanished_servers(site):
 
 
 def vanished_client(site):
-    """Whether a server closes in time a client that is gone."""
+    """Whether a server closes in time a client that has vanished."""
     with site.server() as server, site.near_client(server) as client:
         asked(client, b"mn\r\n")
         before, begun = server.descriptors(), time.monotonic()

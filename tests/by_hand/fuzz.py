@@ -1,30 +1,30 @@
 #!/usr/bin/env python3
-"""Sends a server, or a proxy in front of two, mutated requests over many connections at once, and sees that it lives and mixes
-nothing up.
+"""Sends a server, or a proxy in front of two, mutated requests over many connections at once, and checks that it lives and
+mixes nothing up.
 
 Usage: fuzz.py SERVER [--through PROXY] [--requests N] [--connections N] [--seed N]
                                                                (1,000,000 requests, 100 connections, seed 1)
        fuzz.py --batch CONNECTION NUMBER [--seed N] > FILE             (the bytes of a batch that the other form sends)
 
 SERVER is the built mc_serverd (or memcached, whose lines are known too). Each connection sends batches of 1 to 79 requests
-(junk.py), whole or in pieces. After each it comes to a known place: by a request whose answer is known, or by closing and
-connecting again, or by both where the junk has swallowed that request. Then it makes an exchange that is known byte for
-byte. Now and then somebody asks for 600 MB and reads none of it.
+(junk.py), whole or in pieces. After each it reaches a known state: by a request whose answer is known, or by closing and
+connecting again, or by both if the junk has swallowed that request. Then it makes an exchange that is known byte for byte. Now
+and then a client asks for 600 MB and reads none of it.
 
-It fails, and says the connection, the batch, what was sent and what came, where
+It fails, and prints the connection, the batch, the bytes that were sent and those that arrived, if
 
 - the server ends, or closes a connection that sent neither `quit` nor a line that is too long;
-- something comes that is no reply of the protocol, or a reply with the tag of another connection (see junk.py): in its
+- bytes arrive that are no reply of the protocol, or a reply with the tag of another connection (see junk.py): in its
   line, or in the value of a key that has the connection's own tag;
 - an exchange is answered by other bytes, or not within ten seconds. (A `flush_all`, which connection 0 alone sends, in some
-  of its batches, may empty the cache in the midst of another's exchange. Then that is made once more.)
+  of its batches, may empty the cache during another's exchange. Then that is made once more.)
 - the server ever had more memory resident than: what it had at the start, and twice the budget with 200 bytes more for
   each item, and 4 MiB for each connection (unread bytes are at most 1.1 MB, in a buffer that may be twice as large while it
   grows, and answers), and 16 MiB.
 
-What is said of the server is looked at in the proxy, where there is one; no link of it is to be lost.
+With a proxy, the rules for the server are checked in the proxy; no link of it may be lost.
 
-At the end it prints what was answered how often, what was sent, and what it cost the server.
+At the end it prints how often each answer was given, what was sent, and the cost for the server.
 """
 
 import argparse
@@ -44,15 +44,15 @@ sys.path.insert(0, str(pathlib.Path(__file__).resolve().parents[1] / "lib"))
 import junk
 from servers import Proxy, Server, connected, is_memcached
 
-# Little enough for items to be evicted all the time, and so much that what an exchange stores stays until it is asked for.
+# Little enough for items to be evicted all the time, and enough that the items of an exchange stay until it asks for them.
 BUDGET = 4 * 2**20
 ITEMS = 1_000
 MEMORY_AN_ITEM = 200
 MEMORY_A_CONNECTION = 4 * 2**20
 MEMORY_BESIDE = 16 * 2**20
 
-PATIENCE = 10.0  # so long an answer may take
-QUIET = 0.5  # so long without an answer: what was sent has been swallowed
+PATIENCE = 10.0  # this long an answer may take
+QUIET = 0.5  # this long without an answer: the junk has swallowed the request
 QUIET_BEHIND_FLUSHES = 2.0  # longer, since no flush may be left
 GREEDY_BATCHES = 1 / 2000
 GREEDY_GETS, GREEDY_GETS_OF_A_PROXY = 600, 20
@@ -74,14 +74,14 @@ class Failed(Exception):
 
 
 class Replies:
-    """The replies of a connection, looked at as they come."""
+    """The replies of a connection, checked as they arrive."""
 
     def __init__(self, tag, line, counts):
         self.tag, self.line, self.counts = tag, line, counts
         self.rest = b""
 
     def lines_of(self, piece):
-        """The lines that came whole with a piece, each value with its line."""
+        """The lines that arrived whole with a piece, each value with its line."""
         data, lines, at = self.rest + piece, [], 0
         while (end := data.find(b"\r\n", at)) >= 0:
             line = data[at:end]
@@ -141,10 +141,10 @@ def exchange_of(tag):
 
 
 class Connection:
-    """One of the connections: `does` says what it is about, `deadline` when that has taken too long.
+    """One of the connections: `does` says what it is doing, `deadline` when that has taken too long.
 
-    junk: it sends a batch. barrier: it awaits the answer to what is after the batch. end: it has closed its side, and
-    awaits that the server closes the other. exchange: it awaits the known answer. done: it has sent all its requests.
+    junk: it sends a batch. barrier: it awaits the answer to the request after the batch. end: it has closed its side, and
+    waits until the server closes the other. exchange: it awaits the known answer. done: it has sent all its requests.
     """
 
     def __init__(self, fuzz, number):
@@ -174,7 +174,7 @@ class Connection:
         self.fuzz.selector.modify(self.socket, selectors.EVENT_READ | selectors.EVENT_WRITE, self)
 
     def happens(self, events):
-        """Does what the selector says can be done."""
+        """Does what the selector allows."""
         try:
             if events & selectors.EVENT_READ:
                 self.receive()
@@ -228,7 +228,7 @@ class Connection:
         self.begin_exchange()
 
     def passes(self, moment):
-        """Does what is to be done where something has taken too long."""
+        """Does what is due if something has taken too long."""
         if self.does == "done" or moment < self.deadline:
             return
         if self.does == "junk":
@@ -239,7 +239,7 @@ class Connection:
         self.connect()
         self.begin_exchange()
 
-    # What it does
+    # The states.
 
     def begin_batch(self):
         if self.requests >= self.fuzz.requests_each:
@@ -263,20 +263,20 @@ class Connection:
         return QUIET_BEHIND_FLUSHES if self.flushes else QUIET
 
     def count_requests(self, unsent=0):
-        """Counts the requests of the batch, but those whose bytes were not sent."""
+        """Counts the requests of the batch, except those whose bytes were not sent."""
         sent = self.count * (len(self.batch) - unsent) // max(1, len(self.batch))
         self.requests += max(1, sent)
         self.fuzz.counts["requests sent"] += sent
 
     def end_batch(self):
-        """The batch was sent: comes to a known place, by one of four ways."""
+        """The batch was sent: reaches a known state, by one of four ways."""
         self.count_requests()
         way = 0 if self.flushes else self.dice.random()
         self.does, self.deadline = "barrier", time.monotonic() + self.quiet()
         if way < 0.6:
             opaque = b"O%sb%d" % (self.tag, self.batch_number)
             self.barrier = b"NF " + opaque
-            # Its sending is watched as the batch's was; an answer cannot come before.
+            # Its sending is watched as the batch's was; an answer cannot arrive before.
             self.unsent.append(b"\r\nmd %snone %s\r\n" % (self.tag, opaque))
             self.send()
             self.deadline = time.monotonic() + self.quiet()
@@ -331,7 +331,7 @@ class Fuzz:
         self.connections = [Connection(self, number) for number in range(connections)]
 
     def add_greedy(self, tag):
-        """Another connection, that stores a large value, asks for it many times, and reads nothing."""
+        """Another connection, which stores a large value, asks for it many times, and reads nothing."""
         key = tag + b"greedy"
         greedy = connected(self.server.port, PATIENCE)
         greedy.sendall(b"set %s 0 60 1000000 noreply\r\n%s\r\n" % (key, tag * 200000))
@@ -368,7 +368,7 @@ class Fuzz:
 
     def tell_failure(self, failure):
         at = self.at
-        time.sleep(0.1)  # A server that is ending may take connections still.
+        time.sleep(0.1)  # A server that is ending may still take connections.
         status = self.server.process.poll()
         print(f"FAILED: {failure}" if status is None else f"FAILED: the server ended, with status {status}; {failure}")
         print(f"at connection {at.number}, after batch {at.batch_number} ({at.does}), of seed {self.seed}")
@@ -396,7 +396,7 @@ class Fuzz:
 
 
 def start(asked, stack):
-    """What is tried, and how many gets somebody sends who reads nothing."""
+    """The program that is tried, and how many gets a client sends that reads nothing."""
     servers = [stack.enter_context(Server(asked.server, BUDGET, ITEMS)) for _ in range(2 if asked.through else 1)]
     if asked.through is None:
         return servers[0], GREEDY_GETS

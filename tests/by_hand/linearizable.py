@@ -7,15 +7,15 @@ Usage: linearizable.py [--seconds N] [--seed N] [--servers N] [--proxies N] [--c
 
 FOLDER has the programs mc_serverd and mc_proxyd. The servers and the proxies run on this machine. Each client sends commands through one proxy,
 one at a time. All clients share the keys, so with two proxies each key is used through both. They record when a command was sent, when its
-answer had arrived, and the answer. Meanwhile programs are killed and started again, and stopped for a while (SIGSTOP). A proxy gives a server
-up after 0.3 seconds of silence. The last server holds one item less than it has keys, so it evicts all along.
+answer had arrived, and the answer. Meanwhile programs are killed and started again, and stopped for a while (SIGSTOP). A proxy gives up
+on a server after 0.3 seconds of silence. The last server may store one item less than it has keys, so it evicts all the time.
 
-**What is checked.** The calls on each key are linearizable (Herlihy and Wing 1990). So they have one order in which a register that may
-forget its item before any command answers as the clients were answered. A call that was answered before another was sent comes first. The
-definition is in tests/lib/registers.py. A command that was answered `SERVER_ERROR link lost`, or whose connection ended, is in the order at
-most once, at any place after it was sent. A restart of a server is a call on each of its keys, from just before the kill until the process
-is gone: it forgets the item, and numbers of `cas` begin again. Beside that, in each life of a server: an item whose store was sent after
-another item's number was shown has a greater number, and no two items have the same.
+**What is checked.** The calls on each key are linearizable (Herlihy and Wing 1990). So they have one order in which a register that may forget
+its item before any command answers as the clients were answered. A call that was answered before another was sent comes first. The definition is
+in tests/lib/registers.py. A command that was answered `SERVER_ERROR link lost`, or whose connection ended, is in the order at most once, at any
+place after it was sent. A restart of a server is a call on each of its keys, from just before the kill until the process is gone: it forgets the
+item, and numbers of `cas` begin again. In addition, in each life of a server: an item whose store was sent after another item's number was shown
+has a greater number, and no two items have the same.
 
 **With --lost missed** a get that is lost is answered as a miss. Forgetting explains a miss, but it does not explain that the item is shown
 again later, with no store between. Such a pool does just that, as docs/LAWS.md says (`a_miss_says_nothing_of_its_server`). So a miss counts as a
@@ -32,17 +32,17 @@ steps is undecided, and the script fails.
 
 - what no client sees: a lost command that is done twice before any other, if it is no count;
 - what forgetting explains, since a register may forget at any time: an item that goes without need, or an add that stores over an item;
-- anything between two keys, as that the keys of one get are looked up at one moment;
+- anything between two keys, such as that the keys of one get are looked up at one moment;
 - what is not sent: expiry, touch, append and prepend, flags, marks, noreply, flush_all, several commands at once;
 - what does not happen in the run.
 
-**--self-test** needs no program. It tries the search on faulty histories that the literature tells of, on random histories beside the
-definition tried in each order, and on a long history (tests/lib/histories.py). Then it runs the clients on pools that a script plays
-(tests/lib/played_pools.py). It must find nothing in a right one. It must find a proxy that sends a lost command again, one that swaps two
-clients' replies, and others with one mistake each. The last line is 'N passed, M failed'.
+**--self-test** needs no program. It tries the search on faulty histories from the literature, on random histories beside the definition tried in
+each order, and on a long history (tests/lib/histories.py). Then it runs the clients on pools that a script plays (tests/lib/played_pools.py). It
+must find nothing in a right one. It must find a proxy that sends a lost command again, one that swaps two clients' replies, and others with one
+mistake each. The last line is 'N passed, M failed'.
 
-Without --self-test it prints what was counted. The status is 1 if a history is wrong or undecided, if a client received what is no answer
-to its command, if nothing was answered, if a client does not end, or if a server is not used again within 20 seconds.
+Without --self-test it prints its counts. The status is 1 if a history is wrong or undecided, if a client received what is no answer to its
+command, if nothing was answered, if a client does not end, or if a server is not used again within 20 seconds.
 """
 
 import argparse
@@ -78,7 +78,7 @@ PAUSE, PAUSE_LOST = 0.002, 0.06  # seconds between a client's commands, at most,
 PATIENCE = 30  # seconds that a client waits for an answer
 MOST_TO_END = 10  # seconds more, in which a client ends
 SECONDS_TO_RETURN = 20
-TIMEOUT = "300"  # milliseconds of silence, until a proxy gives a server up
+TIMEOUT = "300"  # milliseconds of silence, until a proxy gives up on a server
 CALM, AWAY, STOPPED = 0.6, 0.4, 1.0  # seconds between faults, until a program is started again, and of a stop, at most
 LINES = {
     b"STORED\r\n": STORED,
@@ -157,7 +157,7 @@ class Board:
         return Key(self.names(place, number), place, number % 2 == 1)
 
     def takes(self, client, count):
-        """Some keys for a client's next command. A worn one is replaced."""
+        """Takes keys for a client's next command. A worn one is replaced."""
         with self.lock:
             chosen = client.dice.sample(range(len(self.keys)), count)
             for at in chosen:
@@ -168,7 +168,7 @@ class Board:
             return self.used[client]
 
     def gives(self, is_over=False):
-        """The replaced keys that no client uses any more; once all is over, all keys."""
+        """Returns the replaced keys that no client uses any more; once all is over, all keys."""
         with self.lock:
             if is_over:
                 self.left += self.keys
@@ -309,11 +309,11 @@ class Client(threading.Thread):
         return [seen.get(key.name, MISS) for key in keys]
 
 
-# The whole.
+# The whole run.
 
 
 class Run:
-    """A pool, its clients, and what was found of their histories. It makes the pool's `faults`."""
+    """A pool, its clients, and the results of checking their histories. It makes the pool's `faults`."""
 
     def __init__(self, pool, seed, clients, misses_say_nothing=False, pause=True):
         self.pool, self.seed, self.dice = pool, seed, random.Random(seed)
@@ -334,7 +334,7 @@ class Run:
         self.restarts[place].append(Call(begun, next(self.clock), ("restart",), RESTARTED))
 
     def goes(self, seconds):
-        """Makes faults and checks what was recorded, for these seconds or until something is wrong."""
+        """Makes faults and checks the recorded calls, for these seconds or until something is wrong."""
         ends = time.monotonic() + seconds
         for client in self.clients:
             client.start()
@@ -354,7 +354,7 @@ class Run:
             raise Wrong("nothing was answered")
 
     def left_at_end(self):
-        """Has the clients end. Gives the numbers of those that do not."""
+        """Ends the clients. Returns the numbers of those that do not end."""
         self.ended, deadline, left = True, time.monotonic() + PATIENCE + MOST_TO_END, []
         for number, client in enumerate(self.clients):
             client.join(max(0, deadline - time.monotonic()))
@@ -413,7 +413,7 @@ class Run:
                 self.wrong += wrong_numbers(place, items_of_life)
 
     def life_of(self, place, item):
-        """In which life of a server an item was seen; None if the server was restarted meanwhile."""
+        """The life of a server in which an item was seen; None if the server was restarted meanwhile."""
         restarts = self.restarts[place]
         life = bisect.bisect([each.sent for each in restarts], item.seen[0])
         is_after = life == 0 or restarts[life - 1].came < item.seen[0]
@@ -437,7 +437,7 @@ def items_of(key):
 
 
 def wrong_numbers(place, items):
-    """What is wrong with the numbers of items that were seen in one life of a server."""
+    """The faults in the numbers of items that were seen in one life of a server."""
     by_number = {}
     for item in items:
         other = by_number.setdefault(item.number, item)
@@ -486,7 +486,7 @@ class LivePool:
                 program.stop()
 
     def connected(self, number):
-        """A connection of the client of a number, to the proxy that it has."""
+        """A connection of the client of a number, to its proxy."""
         return self.proxies[number % len(self.proxies)].connected()
 
     def name(self, place, number):
@@ -521,7 +521,7 @@ class LivePool:
 
     @contextlib.contextmanager
     def stopped(self, run, program, most=STOPPED):
-        """A block before and after which a program stands still."""
+        """A block before and after which a program is stopped."""
         program.process.send_signal(signal.SIGSTOP)
         self.rests(run, most)
         yield
@@ -587,7 +587,7 @@ class PlayedPool:
             self.relay.restart()
 
 
-# What is printed.
+# The output.
 
 
 def tell(run, asked, seconds):
@@ -606,7 +606,7 @@ def tell(run, asked, seconds):
 
 
 def made(asked, programs):
-    """Makes a run, and prints what came of it. Gives the exit status."""
+    """Makes a run, and prints the results. Returns the exit status."""
     why, begun, run = [], time.monotonic(), None
     with contextlib.ExitStack() as stack:
         try:
@@ -623,7 +623,7 @@ def made(asked, programs):
 
 
 def tried_on(relay, seconds, seed, **words):
-    """What is found wrong of a pool that a script plays, within so many seconds."""
+    """The first fault that is found in a pool that a script plays, within this many seconds."""
     with relay:
         run = Run(PlayedPool(relay), seed, 5, pause=False, **words)
         try:
@@ -634,7 +634,7 @@ def tried_on(relay, seconds, seed, **words):
 
 
 def checks_of_pools(seed):
-    """Each with its name: whether a right pool is found right, and each wrong one wrong."""
+    """Each check with its name: whether a right pool is found right, and each wrong one wrong."""
     for losses in ("told", "missed"):
         wrong, run = tried_on(played_pools.Relay(seed, losses), 3, seed, misses_say_nothing=losses == "missed")
         yield f"a right pool, losses {losses}, {run.told['calls']:,} calls", wrong is None, wrong

@@ -1,16 +1,16 @@
 #!/usr/bin/env python3
-"""Loads a proxy in front of two servers, kills one of them again and again, and sees that every answer is right.
+"""Loads a proxy in front of two servers, kills one of them repeatedly, and checks that every answer is right.
 
 Usage: losses.py PROXY SERVER [--losses N] [--clients N] [--seed N]      (200 losses, 20 clients, seed 1)
 
 PROXY is the built mc_proxyd, SERVER the built mc_serverd. Each client sends batches of 1 to 30 requests on keys of its own, of which
 each server owns some, and knows which answers are right (checked_clients.py). The second server is killed, in half of the cases after it
-has stood still for a moment with commands that wait, and started again; the next loss comes once the proxy uses it again. It fails, and
-says what was sent and what came, where
+was stopped for a moment with pending commands, and started again; the next loss happens once the proxy uses it again. It fails, and
+prints the bytes that were sent and those that arrived, if
 
-- something else comes than the answer of the request whose turn it is. (At the server that is killed a key may have been lost, so that
-  a get misses. A value that was stored before an answered command of the key never comes again.)
-- a command of the first server is said to be lost;
+- the answer that arrives is not that of the next request. (At the server that is killed a key may have been lost, so that
+  a get misses. A value that was stored before an answered command of the key never appears again.)
+- a command of the first server is reported lost;
 - a client is closed, or waits ten seconds for an answer;
 - the proxy, with all clients at rest, has more sockets open after the last loss than after the 20th, or three megabytes more of
   memory resident (what the allocator keeps goes up and down by one or two).
@@ -33,9 +33,9 @@ from checks import FAILURES, Wrong, settles
 from live_pool import SECONDS_TO_RETURN, Pool
 
 KEYS_AT_A_SERVER = 6
-EARLY = 20  # losses until the proxy is first looked at
+EARLY = 20  # losses until the proxy is first checked
 MAY_GROW = 3 * 2**20
-SECONDS_UP = 0.3  # so long at most it is used between two losses
+SECONDS_UP = 0.3  # the longest that it is used between two losses
 SECONDS_TO_PAUSE = 20  # at most, until all clients rest
 SECONDS_TO_REST = 2.5
 

@@ -3,11 +3,11 @@
 
 Usage: memcached.py [NAME ..]      (examples of tests/examples/; all that have a meta command and one moment)
 
-Where memcached is installed, one is started for each example on a free port of 127.0.0.1 and ended again. It is sent
-the example's requests one by one, each with one more after it, by whose answer the end of the other is known; our
-answer is that of model.py. No answer within a second, or a closed connection, is said so. Where it is not installed
-nothing is compared. The last line is a count. Differences are no failure: docs/PROTOCOL.md lists them ("Where we
-differ").
+If memcached is installed, one is started for each example on a free port of 127.0.0.1 and ended again. It is sent the
+example's requests one by one, each with one more after it, whose answer shows the end of the other; our answer is that
+of model.py. If there is no answer within a second, or the connection is closed, a line says so. If memcached is not
+installed nothing is compared. The last line is a count. Differences are no failure: docs/PROTOCOL.md lists them ("Where
+we differ").
 """
 
 import pathlib
@@ -27,7 +27,8 @@ META_LINE = re.compile(rb"(^|\r\n|\n) *m[gsdan]( |\r|\n)")
 
 
 def requests_of(script):
-    """The requests of an example of one connection at one moment, each with our answer; none where it is another."""
+    """The requests of an example of one connection at one moment, each with our answer; none if the example is
+    another."""
     lines = [line for line in script.read_bytes().decode("latin-1").split("\n") if line]
     texts = [unescaped(line[8:]) for line in lines if line.startswith("bytes 0 ")]
     moments = {line for line in lines if line.startswith("turn ")}
@@ -83,7 +84,7 @@ def main(names):
     for script in scripts:
         requests = requests_of(script)
         sent += len(requests)
-        # A second that began in between changes what is left of an item's time, so a difference has to come twice.
+        # A second that began in between changes the time that an item has left, so a difference must appear twice.
         found = requests and differences(program, requests) and differences(program, requests)
         differ += len(found)
         alike = {}

@@ -1,12 +1,12 @@
 #!/usr/bin/env python3
-"""Has monitors that exist watch the built mc_serverd, and mc_proxyd if it is named, at its listener of operators (--admin).
+"""Lets existing monitors watch the built mc_serverd, and mc_proxyd if it is named, at its listener of operators (--admin).
 
 Usage: monitors.py SERVER [PROXY] [--plugins FOLDER]
 
-Debian's promtool (package prometheus) checks what /metrics shows, and memcstat (libmemcached-tools) asks for the statistics. Munin's plug-in
-memcached_ (munin-plugins-extra, libcache-memcached-perl, libstring-crc32-perl) is run as munin would run it, and collectd (collectd-core)
-with its plug-in memcached. FOLDER is where packages were unpacked that are not installed. One that is missing is named and not counted.
-The last line is 'N passed, M failed'.
+Debian's promtool (package prometheus) checks the output of /metrics, and memcstat (libmemcached-tools) asks for the statistics. Munin's
+plug-in memcached_ (munin-plugins-extra, libcache-memcached-perl, libstring-crc32-perl) is run as munin would run it, and collectd
+(collectd-core) with its plug-in memcached. FOLDER has the unpacked packages that are not installed. One that is missing is named and not
+counted. The last line is 'N passed, M failed'.
 """
 
 import contextlib

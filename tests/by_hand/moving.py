@@ -3,9 +3,9 @@
 
 Usage: moving.py SERVER [PROXY]      (SERVER is the built mc_serverd, PROXY mc_proxyd; nutcracker is Debian's)
 
-For each setting four servers are flushed, 1,000 keys are set through nutcracker, and then got through PROXY, in front of the same
-servers. The line of a setting has the hits. Without PROXY each key is asked of the server that the plain model of the ring
-names (tests/lib/rings.py). A setting that keeps the keys has 1,000 hits, and as many the other way: set through PROXY, got through
+For each setting four servers are flushed, 1,000 keys are set through nutcracker, and then got through PROXY, in front of the same servers.
+The line of a setting has the hits. Without PROXY each key is requested from the server that the plain model of the ring names
+(tests/lib/rings.py). A setting that keeps the keys has 1,000 hits, and as many in the other direction: set through PROXY, got through
 nutcracker. One that moves all keys has fewer than half, and unequal weights fewer than all. The servers of port 11211 listen at 127.77.0.1
 to 127.77.0.4. The last line is 'N passed, M failed'.
 """
@@ -125,7 +125,7 @@ def hits(connection, keys):
 
 
 def asked(addresses, names, proxy, keys):
-    """Connections to whom the keys are asked of, each with its keys: the proxy, or their owners by the model."""
+    """The connections on which the keys are requested, each with its keys: the proxy, or their owners by the model."""
     if proxy:
         return [(proxy.connected(), keys)]
     ring = Ring(names)
@@ -142,7 +142,7 @@ def empty(addresses):
 
 
 def tried(addresses, names, proxy, stays, lines, text_of, keys, is_reversed):
-    """The hits of a setting over servers that are empty, and whether they are as wanted."""
+    """The hits of a setting over empty servers, and whether they are as expected."""
     texts = [text_of(address, place) for place, address in enumerate(addresses)]
     with Nutcracker(lines, texts[::-1] if is_reversed else texts) as older:
         empty(addresses)

@@ -1,12 +1,12 @@
 #!/usr/bin/env python3
-"""Gives a server a budget above what the machine gives it, and says what its clients see once there is no memory.
+"""Gives a server a budget above the memory of the machine, and reports what its clients see once memory is used up.
 
 Usage: no_memory.py SERVER [--megabytes N] [--sizes BYTES,BYTES ..] [--stores KIND,KIND]
 
 SERVER is the built mc_serverd. It has a budget of 16 GiB, and may take N MiB (16) of addresses more than it has at its start, as with
-`ulimit -v`. It is started anew for each size of a value. Twenty clients store a small value each. Then another one stores values of the
-size under new keys, until a hundred in a row are refused. Then come gets of values that were stored, sets of the same keys, and sets after
-ten deletes.
+`ulimit -v`. It is started anew for each size of a value. Twenty clients store a small value each. Then another one stores values of the size
+under new keys, until a hundred in a row are refused. Then it gets values that were stored, sets their keys again, and stores after ten
+deletes.
 
 A row of the table has
 
@@ -17,8 +17,8 @@ A row of the table has
     of the twenty          how many are still served with their values
     server                 whether it stays
 
-A size passes if nobody is closed, each get and each of the twenty is answered, and the server stays and stores again. The last line is
-'N passed, M failed'.
+A size passes if no client is closed, each get and each of the twenty is answered, and the server stays and stores again. The last line is 'N
+passed, M failed'.
 """
 
 import argparse
@@ -39,7 +39,7 @@ BUDGET = 16 << 30
 ITEMS = 1_000_000
 OTHERS = 20
 ROW = 100  # refusals in a row after which the memory is used up
-TRIED = 1_000  # gets and sets of held keys at most
+TRIED = 1_000  # most gets and sets of stored keys
 DELETED = 10
 SECONDS = 120
 FIRST_OF_OTHERS = 10**9  # the number of the key of the first of the twenty clients
@@ -47,13 +47,14 @@ STORED, TOLD, CLOSED = "stored", "told", "closed"
 
 
 class Client:
-    """A client whose connection is made anew if it is closed."""
+    """A client that connects anew if its connection is closed."""
 
     def __init__(self, server):
         self.server, self.connection = server, None
 
     def answered(self, text, wanted):
-        """Sends a text, and gives as many bytes of its answer as are wanted, or its first line if that is an error; None if it is closed."""
+        """Sends a text, and returns this many bytes of its answer, or its first line if that is an error; None if the connection is
+        closed."""
         try:
             if self.connection is None:
                 self.connection = self.server.connected()
@@ -69,7 +70,7 @@ class Client:
             return None
 
     def store(self, number, size):
-        """What becomes of a store."""
+        """The outcome of a store."""
         answer = self.answered(store_of(number, size), b"STORED\r\n")
         known = {b"STORED\r\n": STORED, NO_MEMORY: TOLD, None: CLOSED}
         if answer not in known:
@@ -100,7 +101,7 @@ class Trial:
         resource.prlimit(server.process.pid, resource.RLIMIT_AS, (most, most))
 
     def fill(self):
-        """Stores until the memory is used up. Gives the first keys that are surely held, how many, and the outcomes."""
+        """Stores until the memory is used up. Returns the first keys that are surely stored, how many, and the outcomes."""
         outcomes, held, row, end = {STORED: 0, TOLD: 0, CLOSED: 0}, 0, 0, time.monotonic() + SECONDS
         step = at_once(self.size)
         with self.server.connected() as connection:
@@ -124,7 +125,7 @@ class Trial:
         return any(self.storing.store(FIRST_OF_OTHERS - 1 - each, self.size) == STORED for each in range(DELETED))
 
     def outcome(self):
-        """The cells of a row, and whether all was as it should be."""
+        """The cells of a row, and whether all was as expected."""
         held, outcomes = self.fill()
         keys = range(0, held, max(1, held // TRIED))
         gets = sum(self.reading.is_held(number, self.size) for number in keys)
@@ -144,7 +145,7 @@ class Trial:
 
 
 def tried(given, kind, size):
-    """Tries a size, prints its row, and says whether all was as it should be."""
+    """Tries a size, prints its row, and returns whether all was as expected."""
     with Server(given.server, BUDGET, ITEMS, words=["--store", kind], stderr=subprocess.DEVNULL) as server:
         trial = Trial(server, size, given.megabytes)
         try:

@@ -1,15 +1,15 @@
 #!/usr/bin/env bash
-# Installs a Debian package in a clean root, starts what its units start, upgrades, removes and purges it, and looks for what is left.
+# Installs a Debian package in a clean root, starts its units' programs, upgrades, removes and purges it, and looks for files that are left.
 #
 # Usage: package.sh PACKAGE      (as root; PACKAGE is what `make deb` made)
 #
 # The clean root is Debian bookworm (debootstrap, minbase), from the mirror that apt's sources on this machine name. It is in a temporary
 # folder, which is deleted at the end. Its mounts, processes and sockets are in namespaces of their own, so any port is free. No service
 # manager runs: the script reads a unit's Environment, EnvironmentFile, ExecStart, ExecStartPost, RestartSec and LimitNOFILE, and starts the
-# program as a user who owns nothing. It does not try what else a unit says, such as MemoryMax. It needs debootstrap, unshare and ip. If lintian
+# program as a user who owns nothing. It does not try a unit's other settings, such as MemoryMax. It needs debootstrap, unshare and ip. If lintian
 # is installed, it looks at the package too.
 #
-# A line says what each check saw. The last line is 'N passed, M failed'.
+# A line has the result of each check. The last line is 'N passed, M failed'.
 set -u
 suite=bookworm
 namespaces=(unshare --mount --pid --fork --kill-child)
@@ -63,7 +63,7 @@ in_root() {
     env -i PATH=/usr/sbin:/usr/bin:/sbin:/bin LC_ALL=C DEBIAN_FRONTEND=noninteractive chroot "$root" "$@"
 }
 
-# Runs a check, prints what it is to see, and counts it.
+# Runs a check, prints what it should see, and counts it.
 passed=0
 failed=0
 check() {
@@ -82,7 +82,7 @@ is_same() {
     [ "$1" = "$2" ] || { printf '  wanted: %q\n  seen:   %q\n' "$1" "$2"; return 1; }
 }
 
-# Runs dpkg or apt-get in the root, and shows what it wrote if it fails.
+# Runs dpkg or apt-get in the root, and prints its output if it fails.
 installer() {
     in_root "$@" > "$root/../installer" 2>&1 || { tail -n 5 "$root/../installer"; return 1; }
 }
@@ -107,7 +107,7 @@ run_unit() {
     run_line ExecStart "$@"
 }
 
-# Starts a unit in the background, as `$!`. What it says is in files of its port. Words: PORT UNIT INSTANCE.
+# Starts a unit in the background, as `$!`. Its output goes to files of its port. Words: PORT UNIT INSTANCE.
 begin() {
     local port=$1
     shift
@@ -135,7 +135,7 @@ starts() {
     return 1
 }
 
-# Whether a server at the port of another one says so, as the journal has it, and ends. Words: PORT UNIT INSTANCE.
+# Whether a server at the port of another one reports that, in the journal's form, and ends. Words: PORT UNIT INSTANCE.
 says_that_it_is_in_use() {
     local said
     said=$(within='timeout 10' JOURNAL_STREAM=8:1 run_unit "${@:2}" 2>&1)
@@ -158,7 +158,7 @@ fails_without_memory() {
     )
 }
 
-# Whether a server ends by its --memory-exit, if it may take only 8 MB more than at its start and its clients store 1 MB again and again.
+# Whether a server ends by its --memory-exit, if it may take only 8 MB more than at its start and its clients store 1 MB repeatedly.
 # Words: PORT UNIT INSTANCE.
 ends_without_memory() {
     (
@@ -203,13 +203,13 @@ starts_full() {
     )
 }
 
-# Ends what was started, and waits for its end.
+# Ends the programs that were started, and waits for their end.
 end_all() {
     [ ${#started[@]} -eq 0 ] || { kill "${started[@]}" 2> /dev/null; wait "${started[@]}" 2> /dev/null; }
     started=()
 }
 
-# What comes back from a port to these bytes, until the connection ends.
+# The answer of a port to these bytes, until the connection ends.
 asked() {
     exec 3<> "/dev/tcp/127.0.0.1/$1" || return 1
     printf '%b' "$2" >&3
@@ -217,12 +217,12 @@ asked() {
     exec 3>&-
 }
 
-# Sends bytes to a port, and sees that these come back until the connection ends.
+# Sends bytes to a port, and checks that these are the answer until the connection ends.
 answers() {
     is_same "$(printf '%b' "$3")" "$(asked "$1" "$2")"
 }
 
-# Whether what comes back to these bytes has a line, within ten seconds. Words: PORT BYTES LINE.
+# Whether the answer to these bytes has a line, within ten seconds. Words: PORT BYTES LINE.
 shows() {
     for _ in $(seq 100); do
         ! asked "$1" "$2" | tr -d '\r' | grep -qx "$3" || return 0
@@ -232,7 +232,7 @@ shows() {
     return 1
 }
 
-# Whether what comes back to these bytes has each of these lines. Words: PORT BYTES LINE..
+# Whether the answer to these bytes has each of these lines. Words: PORT BYTES LINE..
 shows_all() {
     local line
     for line in "${@:3}"; do
@@ -240,7 +240,7 @@ shows_all() {
     done
 }
 
-# The cas number of what is stored now at a port.
+# The cas number of an item that is stored now at a port.
 new_number() {
     asked "$1" 'set c 0 0 1\r\nx\r\ngets c\r\nquit\r\n' | tr -d '\r' | sed -n 's/^VALUE c 0 1 //p'
 }
@@ -257,7 +257,7 @@ numbers_rise() {
     [ -n "$before" ] && [ "$after" -gt "$before" ] || { echo "  $before before, $after after"; return 1; }
 }
 
-# Whether the program at a port has said a line on standard error, within ten seconds. Words: PORT LINE.
+# Whether the program at a port has written a line on standard error, within ten seconds. Words: PORT LINE.
 says() {
     for _ in $(seq 100); do
         ! grep -qx "$2" "$root/../errors.$1" || return 0
@@ -267,7 +267,7 @@ says() {
     return 1
 }
 
-# Stores twenty keys through the proxy at a port, or gets them: what comes back, a line for each kind and how often it came.
+# Stores twenty keys through the proxy at a port, or gets them: the answers, a line for each kind with its number.
 twenty() {
     local text='' number
     for number in $(seq 20); do
@@ -280,7 +280,7 @@ all_are_stored() {
     is_same '20 STORED' "$(twenty "$1" 'set KEY 0 0 1\r\nx\r\n')"
 }
 
-# Whether they are within ten seconds: a server that is back is used once the proxy has tried it again.
+# Whether the answers are these within ten seconds: a server that is back is used once the proxy has tried it again.
 are_stored_again() {
     for _ in $(seq 100); do
         ! all_are_stored "$1" > /dev/null || return 0
@@ -289,7 +289,7 @@ are_stored_again() {
     all_are_stored "$1"
 }
 
-# Whether some keys are found, and the others are those of a lost server.
+# Whether some keys hit, and the others belong to a lost server.
 some_are_lost() {
     local seen lost
     seen=$(twenty "$1" 'get KEY\r\n')
@@ -413,7 +413,7 @@ linted() {
     lintian --fail-on error,warning "$package" > "$root/../linted" 2>&1 || { tail -n 20 "$root/../linted"; return 1; }
 }
 
-# Whether these paths are there, or are not.
+# Whether these paths exist, or do not.
 are_there() {
     local path
     for path in "$@"; do
@@ -439,7 +439,7 @@ verifies() {
     is_same "$1" "$(in_root dpkg --verify wiersbol)"
 }
 
-# Whether no path is left in the root but those that were there and these.
+# Whether no path is left in the root except those from before and these.
 is_all_that_is_left() {
     is_same "$(printf '%s\n' "$@")" "$(files | comm -13 "$root/../before" -)"
 }

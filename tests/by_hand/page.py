@@ -3,8 +3,8 @@
 
 Usage: page.py SERVER PROXY [--picture FILE]      (SERVER is the built mc_serverd, PROXY mc_proxyd; Debian: chromium)
 
-The browser is asked what the page shows, what its console says, and what it refuses. A server is killed, and then the proxy. --picture
-writes a picture of both pages, side by side. The last line is 'N passed, M failed'.
+The browser is asked what the page shows, what its console reports, and what it refuses. A server is killed, and then the proxy.
+--picture writes a picture of both pages, side by side. The last line is 'N passed, M failed'.
 """
 
 import argparse
@@ -27,7 +27,7 @@ from checks import Wrong, tally, want
 from servers import HOST, Proxy, Server, free_port
 from suite import are_built
 
-SECONDS = 15  # in which something is to be seen
+SECONDS = 15  # in which something must appear
 WIDTH, HEIGHT = 720, 530  # of a page in the picture
 SHOWN = """[...document.querySelectorAll("#own tr")].map(row => [...row.cells].map(cell => cell.textContent))"""
 SERVERS = """[...document.querySelectorAll("#servers tbody tr")].map(row => [...row.cells].map(cell => cell.textContent))"""
@@ -42,7 +42,7 @@ FORGED = """new Promise(done => {
 
 
 class Browser:
-    """Chromium, which is spoken to over two pipes: messages of JSON, each ended by a zero byte."""
+    """Chromium, controlled over two pipes: messages of JSON, each ended by a zero byte."""
 
     def __init__(self, stack):
         profile = stack.enter_context(tempfile.TemporaryDirectory())
@@ -59,7 +59,7 @@ class Browser:
         self.kept, self.count, self.said = b"", 0, []
 
     def asked(self, method, session=None, **parameters):
-        """The result of a call; what it says unasked is kept."""
+        """The result of a call; messages without a request are kept."""
         self.count += 1
         message = {"id": self.count, "method": method, "params": parameters, **({"sessionId": session} if session else {})}
         os.write(self.output, json.dumps(message).encode() + b"\0")
@@ -114,7 +114,7 @@ class Page:
             time.sleep(0.2)
 
     def complaints(self):
-        """What the console has of this page: errors, and what was refused."""
+        """The entries of the console for this page: errors, and refusals."""
         mine = [each for each in self.browser.said if each.get("sessionId") == self.session]
         return [str(each["params"]) for each in mine if each["method"] in ("Log.entryAdded", "Runtime.exceptionThrown")]
 
@@ -192,7 +192,7 @@ def it_is_light_or_dark(page):
 
 
 def nothing_else_runs(page):
-    """A script that was put into the page, and a request to elsewhere: the policy refuses both, and the console says so."""
+    """A script that was put into the page, and a request to another host: the policy refuses both, and the console reports it."""
     want(page.value(FORGED), "undefined")
     want(any("Content Security Policy" in each for each in page.complaints()), True)
 
@@ -204,7 +204,7 @@ def a_lost_server_is_shown(page, pool):
 
 
 def its_end_is_shown(page, pool, proxy, stack):
-    """The page says that the program is gone, keeps the old numbers, and goes on with the next one at its address."""
+    """The page says that the program has ended, keeps the old numbers, and continues with the next one at its address."""
     port, admin = pool.proxy.port, pool.admins[2]
     pool.proxy.stop()
     page.until(STATE, lambda state: state.startswith("No answer for "))

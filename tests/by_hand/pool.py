@@ -1,11 +1,11 @@
 #!/usr/bin/env python3
-"""Starts servers and a proxy in front of them on free ports of 127.0.0.1, says how to reach them, and ends them together.
+"""Starts servers and a proxy in front of them on free ports of 127.0.0.1, prints how to reach them, and ends them together.
 
 Usage: pool.py PROXY SERVER [--servers N]      (2 servers)
 
-PROXY is the built mc_proxyd, SERVER the built mc_serverd. It waits until it is interrupted (Ctrl-C) or told to end, or one of them
-has ended by itself; then it ends the others, and nothing is left running. What interrupts it while it ends the others is passed
-over. Its status is 1 where one ended by itself.
+PROXY is the built mc_proxyd, SERVER the built mc_serverd. It waits until it is interrupted (Ctrl-C) or terminated, or one of them
+has ended by itself; then it ends the others, and nothing is left running. Interrupts while it ends the others are ignored. Its
+status is 1 if one ended by itself.
 """
 
 import argparse
@@ -50,7 +50,7 @@ def main():
     asked = words.parse_args()
     hear(interrupt)
     with contextlib.ExitStack() as stack:
-        stack.callback(hear, signal.SIG_IGN)  # Once all are ended: the interpreter would else die of one more.
+        stack.callback(hear, signal.SIG_IGN)  # Once all are ended: otherwise one more would kill the interpreter.
         try:
             servers = [stack.enter_context(Server(asked.server, items="auto", words=["--cas-from", "now"])) for _ in range(asked.servers)]
             proxy = stack.enter_context(Proxy(asked.proxy, [server.address for server in servers]))

@@ -1,11 +1,11 @@
 #!/usr/bin/env python3
-"""Has Debian's Prometheus watch two servers and a proxy, and sees that each panel of install/dashboard.json has a line, and that the
-alerts of install/alerts.yml are taken and say so when a server is lost.
+"""Lets Debian's Prometheus watch two servers and a proxy, and checks that each panel of install/dashboard.json has a line, and that
+the alerts of install/alerts.yml are taken and fire when a server is lost.
 
 Usage: prometheus.py SERVER PROXY      (SERVER is the built mc_serverd, PROXY mc_proxyd; Debian: prometheus)
 
-All that is started listens at 127.0.0.1, and is ended with the script. `promtool check metrics` looks at what each program shows. It
-takes half a minute. The last line is 'N passed, M failed'.
+All that is started listens at 127.0.0.1, and is ended with the script. `promtool check metrics` checks the output of each program.
+It takes half a minute. The last line is 'N passed, M failed'.
 """
 
 import contextlib
@@ -45,7 +45,7 @@ def got(address, path):
 
 
 class Watched:
-    """Two servers, of which one is full of items, and a proxy, each with a listener for operators, and Prometheus."""
+    """Two servers, one of which is full of items, and a proxy, each with a listener for operators, and Prometheus."""
 
     def __init__(self, stack, server, proxy):
         self.admins = [f"{HOST}:{free_port()}" for _ in range(3)]
@@ -77,7 +77,7 @@ class Watched:
                 time.sleep(0.001)
 
     def asked(self, expression):
-        """What Prometheus answers: labels with a number, for each line."""
+        """The answer of Prometheus: labels with a number, for each line."""
         for name, value in VARIABLES.items():
             expression = expression.replace(name, value)
         answer = json.loads(got(self.prometheus, "/api/v1/query?" + urllib.parse.urlencode({"query": expression})))

@@ -5,10 +5,10 @@
 #        rebuilt.sh --built CLONE RELEASE [REPOSITORY]
 #
 # It checks the sums of RELEASE, clones the repository into a temporary folder, takes the commit that PROVED names, and proves and builds the
-# programs there: some 80 minutes of processor time. The toolchain has to be the one that PROVED names. Then it makes the release of them
+# programs there: some 80 minutes of processor time. The toolchain must be the one that PROVED names. Then it makes the release of them
 # (install/release.sh), with the gate's line of PROVED, and compares each file. Debian's tools (dpkg-dev, binutils, tar, gzip, xz) have to be
 # of the same versions. With --built nothing is proved: the programs are those that CLONE has built, as for a quick look at the packing.
-# A line says what each check saw. The last line is 'N passed, M failed'.
+# A line has the result of each check. The last line is 'N passed, M failed'.
 set -u
 built=
 if [ "${1:-}" = --built ] && [ $# -ge 2 ]; then
@@ -27,14 +27,14 @@ trap 'rm -rf "$work"' EXIT
 clone=$work/wiersbol
 passed=0
 failed=0
-exec 4>&1 # where prove.py says how far it is
+exec 4>&1 # where prove.py reports its progress
 
-# What PROVED says behind a word.
+# The text of PROVED after a word.
 proved() {
     sed -n "s/^$1: //p" "$release/PROVED"
 }
 
-# Makes a check, prints what it is to see, and counts it.
+# Makes a check, prints what it should see, and counts it.
 check() {
     local what=$1
     shift

@@ -21,7 +21,7 @@ sum_of() {
     sha256sum < "$1" | cut -d ' ' -f 1
 }
 
-# Compares a program of both clones, and says what it saw.
+# Compares a program of both clones, and prints the result.
 is_same() {
     local first=$one/crates/$1/out/$1 second=$other/crates/$1/out/$1 each
     for each in "$first" "$second"; do

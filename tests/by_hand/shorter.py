@@ -1,18 +1,17 @@
 #!/usr/bin/env python3
 """Tries shorter proofs of a crate's lemmas, and writes those that the prover takes.
 
-Usage: shorter.py CRATE [FILE ..]      (FILE: the name of a lemma file, as RingLemmas; all of the crate's, where none is named)
+Usage: shorter.py CRATE [FILE ..]      (FILE: the name of a lemma file, as RingLemmas; all of the crate's, if none is named)
 
-The crate is proved before (`prove.py CRATE`). Of each clause of a lemma that has lines to lose these bodies are tried:
+The crate is proved before (`prove.py CRATE`). For each clause of a lemma that has lines to lose it tries these bodies:
 
-- `grind` with the lemmas that the body names, and with the lemma itself where the body calls it;
+- `grind` with the lemmas that the body names, and with the lemma itself if the body calls it;
 - the first `let`s of the body, and `grind` with what the rest of it names;
-- the body without a `let` whose name nothing else says.
+- the body without a `let` whose name nothing else uses.
 
-A copy of the lemma with each body, under another name, is written below it, in a copy of the crate; one check then refuses the wrong
-ones by their lines. Of those that pass, the shortest of each clause are put together and checked once more. It takes half a minute to
-some minutes a file, longer where lemmas speak of large records. Read what it wrote, and have it laid out (`rt fmt`) and proved (`rt check`).
-The last line is 'N lines fewer'.
+A copy of the lemma with each body, under another name, is written below it, in a copy of the crate; one check then refuses the wrong ones by
+their lines. Of those that pass, the shortest of each clause are put together and checked once more. It takes half a minute to some minutes a
+file, longer if lemmas have large records. Read its result, and format (`rt fmt`) and prove (`rt check`) it. The last line is 'N lines fewer'.
 """
 import argparse
 import pathlib
@@ -31,7 +30,7 @@ LETTERS = r"A-Za-z0-9_'\-\u0080-\uffff"
 SIGNATURE = re.compile(r"(?:pub )?([^\s(){}:◌]+) : ")
 IMPORT = re.compile(r"(?:pub )?use (\S+)\.\{(.*)\}$")
 COMMON = "Rattle.std.proofs.Common"
-# What a proof by hand is joined with, and `grind` needs no word of.
+# The names that join a proof by hand, and that `grind` does not need.
 JOINTS = {"refl", "sym", "ap", "subst", "inl", "inr", "absurd", "arith", "cc", "rules"}
 
 
@@ -87,7 +86,7 @@ def text_of(parts):
 
 
 class Body:
-    """A clause taken apart: up to its `=`, its `let`s, what is after them, and its `where`."""
+    """A clause taken apart: up to its `=`, its `let`s, the text after them, and its `where`."""
 
     def __init__(self, clause):
         self.head, _, first = clause[0].partition(" =")
@@ -104,7 +103,7 @@ class Body:
         self.rest = rest[sum(map(len, self.lets)):]
 
     def with_end(self, lets, end):
-        """The clause with these `let`s and this end. What fits in a line is in one."""
+        """The clause with these `let`s and this end, in one line if it fits."""
         one = f"{self.head} = {end[0].strip()}"
         if not lets and len(end) == 1 and len(one) <= WIDTH:
             return [one, *self.where]
@@ -195,7 +194,7 @@ class Copy:
 
 
 def shortened(copy, path):
-    """Writes a lemma file anew, and gives how many lines it has fewer."""
+    """Writes a lemma file anew, and returns how many lines it has fewer."""
     before = path.read_text()
     parts = parts_of(with_arith(before))
     lemmas = [at for at, part in enumerate(parts) if isinstance(part, Lemma)]

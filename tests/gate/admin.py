@@ -1,12 +1,13 @@
 #!/usr/bin/env python3
 """Tries the listener of operators, --admin, of the built mc_serverd and mc_proxyd on sockets: what it shows, what it refuses, and what
-operators who mean ill can do to others.
+malicious operators can do to others.
 
 Usage: admin.py SERVER PROXY
 
-serverd.metrics and proxyd.metrics are what /metrics shows of a server and of a proxy, serverd.stats what the line `stats` is answered,
-serverd.settings and proxyd.settings what `stats settings` is: of what is another at each run (a process, a time, a port) the value is a word in
-capitals. It prints a line for each check that fails; the last line is 'N passed, M failed'. All that is started is ended with its check.
+serverd.metrics and proxyd.metrics have the output of /metrics of a server and of a proxy, serverd.stats the answer to the line `stats`,
+serverd.settings and proxyd.settings that to `stats settings`: a value that differs at each run (a process, a time, a port) is a word in
+capitals. The script prints a line for each check that fails; the last line is 'N passed, M failed'. All that is started is ended with its
+check.
 """
 
 import base64
@@ -40,7 +41,7 @@ LOAD = (
     b"set a 0 0 3\r\nabc\r\nset b 0 0 1\r\nx\r\nset c 0 -1 1\r\ny\r\nget a b c none\r\nmg a v\r\nincr n 1\r\nwhat\r\n",
     b"STORED\r\nSTORED\r\nSTORED\r\nVALUE a 0 3\r\nabc\r\nVALUE b 0 1\r\nx\r\nEND\r\nVA 3\r\nabc\r\nNOT_FOUND\r\nERROR\r\n",
 )
-# What is another at each run, in metrics and in statistics.
+# The values that differ at each run, in metrics and in statistics.
 VARYING = [
     (rb"(wiersbol_process_id|STAT pid) \d+", rb"\1 PID"),
     (rb"(memcached_uptime_seconds|STAT uptime) \d+", rb"\1 UPTIME"),
@@ -58,7 +59,7 @@ def masked(text, ports=()):
 
 
 class Admin:
-    """A program with a listener of operators: how it is asked."""
+    """A program with a listener of operators, and how to ask it."""
 
     def __init__(self, port):
         self.port = port
@@ -77,7 +78,7 @@ class Admin:
             client.close()
 
     def told(self, text):
-        """All that comes for a text."""
+        """All bytes of the answer to a text."""
         with self.connected() as connection:
             connection.sendall(text)
             return received_to_the_end(connection)
@@ -135,7 +136,7 @@ def it_says_that_it_serves(program):
 
 
 def memory_is_that_of_the_process(program):
-    """What it says of its memory is what the system says, before and after it stored 20 MB."""
+    """Its report of its memory is the system's, before and after it stored 20 MB."""
     with server(program) as (started, admin), started.connected() as client:
         for _ in range(2):
             shown = dict(line.rsplit(b" ", 1) for line in admin.got("/metrics")[2].splitlines())
@@ -145,7 +146,7 @@ def memory_is_that_of_the_process(program):
 
 
 def a_page_is_shown(program):
-    """A browser may run the script of the page and use its style, and nothing else: their sums are those that it is sent."""
+    """A browser may run the script of the page and use its style, and nothing else: their hashes are those of the texts that it is sent."""
     with server(program) as (_, admin):
         status, fields, body = admin.got("/")
         want((status, fields["content-type"], fields["x-content-type-options"]), (200, "text/html; charset=utf-8", "nosniff"))
@@ -164,7 +165,7 @@ def a_page_is_shown(program):
 
 
 def numbers_grow(program):
-    """What counts since the start, scraped after each of three loads, whose client is still connected."""
+    """The counts since the start, scraped after each of three loads, whose client is still connected."""
     with server(program) as (started, admin):
         for total in (1, 2, 3):
             with loaded(started):
@@ -211,7 +212,7 @@ def settings_of_a_proxy_are_shown(proxy_program):
 
 
 def a_proxy_shows_its_choice(proxy_program):
-    """With `--lost missed` it shows the requests whose answers hide a loss, and else none."""
+    """With `--lost missed` it shows the requests whose answers hide a loss, and otherwise none."""
     for words, choice, missed in (([], b"told", None), (["--lost", "missed"], b"missed", b"1")):
         port = free_port()
         with Proxy(proxy_program, [f"{HOST}:{free_port()}"], ["--admin", f"{HOST}:{port}", *words]) as proxy, proxy.connected() as client:
@@ -227,7 +228,7 @@ def a_proxy_shows_its_choice(proxy_program):
 
 
 def listed(answer):
-    """What `stats conns` says of each client, by its place: names with values, in the order of the lines."""
+    """The entries of `stats conns` for each client, by its place: names with values, in the order of the lines."""
     *lines, end = answer.splitlines(keepends=True)
     want(end, b"END\r\n")
     clients = {}
@@ -291,7 +292,7 @@ def many_clients_are_listed_in_parts(program):
 
 
 def those_who_list_wait_for_each_other(program):
-    """Fifteen who ask at once who is connected are each told all."""
+    """Fifteen who ask at once who is connected each get the whole answer."""
     with server(program) as (started, admin), contextlib.ExitStack() as stack:
         clients = [stack.enter_context(started.connected()) for _ in range(70)]
         for each in clients:
@@ -320,7 +321,7 @@ def a_proxy_lists_its_clients(program, proxy_program):
             want((second["addr"], second["state"], second["bytes_read"]), (address_of(waiting), "conn_io_queue", "16"))
 
 
-# What is asked, however it comes.
+# Requests, however they arrive.
 
 
 def a_byte_at_a_time(program):
@@ -356,7 +357,7 @@ def the_cache_is_not_reached(program):
             want(received_to_the_end(client), b"")
 
 
-# What is refused.
+# Refusals.
 
 
 def other_methods_are_refused(program):
@@ -416,7 +417,7 @@ def an_endless_line_is_refused(program):
         want(admin.told(b"x" * REQUEST_LIMIT), b"CLIENT_ERROR line too long\r\n")
 
 
-# What others meet.
+# What other clients notice.
 
 
 def a_17th_connection_is_closed(program):
@@ -476,7 +477,7 @@ def one_that_does_not_read_holds_up_nobody(program):
 
 
 def a_flood_costs_little(program, line, clients):
-    """Fifteen who ask without end take a small part of the processor."""
+    """Fifteen who ask without end use a small part of the processor."""
     with server(program) as (started, admin), contextlib.ExitStack() as stack:
         for _ in range(clients):
             is_served(stack.enter_context(started.connected()))

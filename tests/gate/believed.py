@@ -5,17 +5,17 @@ of, and what one server answers.
 Usage: believed.py [--check]
 
 From the clauses of a function's contract it follows the names of definitions, as they are imported (`ghost use` in a source, `use` in
-specs/), from one definition to the next, and the types of the sources that these name. What Rattle's own libraries define is not listed,
-nor are helpers that only proofs cite. It writes
+specs/), from one definition to the next, and the types of the sources that these name. Definitions of Rattle's own libraries are not
+listed, nor are helpers that only proofs cite. It writes
 
 - docs/definitions.txt: each definition by crate and file, with its lines, without comments and empty ones, and which headlines need it;
 - docs/DEFINITIONS.md, between two marks: how many definitions and lines each headline needs;
 - docs/LINEARIZABLE.md: the first headline whole, with its comments, except the grammar of lines, flags and replies, and how calls of a
   `World` read it.
 
-With --check it writes nothing, and sees that all three are as it would write them, that README.md has the counts of lines, and that
-docs/DEFINITIONS.md explains each of these definitions, in the first column of a table of definitions, and no other. The last line is
-'N passed, M failed': one for each definition, one for each file, and one for each count.
+With --check it writes nothing. It checks that all three are as it would write them, that README.md has the counts of lines, and that
+docs/DEFINITIONS.md explains each of these definitions, in the first column of a table of definitions, and no other. The last line is 'N
+passed, M failed': one for each definition, one for each file, and one for each count.
 """
 
 import argparse
@@ -127,7 +127,7 @@ def definitions_of(crate, file):
 
 @functools.lru_cache(maxsize=None)
 def meanings(crate, file):
-    """What the names are of a file of specs/: its definitions, and those that a constructor makes values of."""
+    """The meaning of the names of a file of specs/: its definitions, and those that a constructor makes values of."""
     found = {}
     for name, lines in definitions_of(crate, file).items():
         if lines[0].startswith("pub data "):
@@ -137,7 +137,7 @@ def meanings(crate, file):
 
 @functools.lru_cache(maxsize=None)
 def types_of(crate):
-    """Of each struct, enum and constant of a crate the file and its lines, without its attributes."""
+    """The file and the lines of each struct, enum and constant of a crate, without its attributes."""
     found = {}
     for path in sorted((CRATES / crate / "src").rglob("*.rt")):
         lines = path.read_text().splitlines()
@@ -158,20 +158,20 @@ def lines_of(it):
 
 
 def pairs(words):
-    """The names of an import, and what each is called where it is imported."""
+    """The names of an import, and the name of each where it is imported."""
     for word in filter(None, (it.strip() for it in (words or "").split(","))):
         name, _, known = word.partition(" as ")
         yield name.strip("◌ "), (known or name).strip("◌ ")
 
 
 def type_named(crate, path):
-    """The type that a module of declared types is of: `declared.parts.Atom.TheVariants` is of Atom."""
+    """The type of a module of declared types: `declared.parts.Atom.TheVariants` is of Atom."""
     names = [it for it in path.split(".") if it in types_of(crate)]
     return Definition(crate, types_of(crate)[names[-1]][0], names[-1]) if names else None
 
 
 def imported(text):
-    """What the names that a text imports mean: definitions, types, and for the names of modules a crate and a file or a type."""
+    """The meaning of the names that a text imports: definitions, types, and for the names of modules a crate and a file or a type."""
     known, modules = {}, {}
     for crate, path, words, alias in IMPORT.findall(text):
         if not (CRATES / crate).is_dir():
@@ -196,7 +196,7 @@ def imported(text):
 
 @functools.lru_cache(maxsize=None)
 def scope_of(crate, file):
-    """What names mean in a file of specs/."""
+    """The meaning of names in a file of specs/."""
     known, modules = imported((CRATES / crate / "specs" / file).read_text())
     return {**known, **meanings(crate, file)}, modules
 
@@ -229,7 +229,7 @@ def types_within(it):
 
 
 def next_of(it):
-    """What one reads next: the definitions and types that a definition names."""
+    """The definitions to read next: the definitions and types that a definition names."""
     if it.is_type():
         return types_within(it)
     return named("\n".join(lines_of(it)), scope_of(it.crate, it.file))
@@ -239,7 +239,7 @@ def next_of(it):
 
 
 def contract_of(root):
-    """The clauses of a function's contract that state a theorem, and what is imported before them."""
+    """The clauses of a function's contract that state a theorem, and the imports before them."""
     text = (CRATES / root.crate / "src" / root.file).read_text()
     found = re.search(rf"fn {root.function}(<[^(]*>)?\(", text)
     before, after = (text[: found.start()], text[found.end() :]) if found else (text, "")
@@ -251,7 +251,7 @@ def contract_of(root):
 
 
 def led_to(left, but=frozenset()):
-    """All that definitions lead to, with them, where some are not followed."""
+    """All that definitions lead to, with them, if some are not followed."""
     found, left = set(), list(left)
     while left:
         it = left.pop()
@@ -267,7 +267,8 @@ def reached(root):
 
 
 def parted(root):
-    """What is read for a theorem alone, and then each list of its own: of the definitions there, and of what they lead to beside."""
+    """The definitions that are read for a theorem alone, and then each list of its own: the definitions there, and those that they also
+    lead to."""
     lists = [{Definition(*it) for it in names} for _, _, names in root.apart]
     alone = led_to(named(*contract_of(root)), set().union(*lists))
     parts = [led_to(names) for names in lists[:1]]
@@ -281,7 +282,7 @@ def parted(root):
 
 
 def sizes(found):
-    """How many definitions there are and their lines."""
+    """The number of definitions, and their lines."""
     return len(found), sum(len(lines_of(it)) for it in found)
 
 
@@ -381,7 +382,7 @@ def texts_of(crate, file, names):
 
 
 def whole(root):
-    """What is read for a theorem alone, the highest crate first."""
+    """The definitions that are read for a theorem alone, the highest crate first."""
     alone, _ = parted(root)
     crates = order()
     for file in sorted({(it.crate, it.file) for it in alone}, key=lambda it: (it[1].endswith(".rt"), -crates.index(it[0]), it[1])):
@@ -416,7 +417,7 @@ def printed():
 
 
 def pages():
-    """What each file is to be."""
+    """The text that each file should have."""
     return {LIST: "".join(f"{line}\n" for line in listed()), EXPLAINED: with_counts(EXPLAINED.read_text()), WHOLE: printed()}
 
 
@@ -431,7 +432,7 @@ def explained():
 
 
 def checks():
-    """Whether each thing is right, and what is said if it is not."""
+    """Whether each thing is right, and the message if it is not."""
     names, believed = explained(), {it for it in set().union(*map(reached, ROOTS)) if not it.is_type()}
     for it in sorted(believed):
         yield it.name in names, f"docs/DEFINITIONS.md does not explain {it.name} of {it.crate}/specs/{it.file}"

@@ -3,10 +3,10 @@
 
 Usage: chart.py SCRIPT PICTURE [--check] [--program PROGRAM]      (mc_sim, as it was built)
 
-Clients are on the left, the proxy in the middle, servers on the right; time goes down. What the program says of each line (`--trace`)
-is drawn: bytes that move are arrows, what is done at one place is a dot with its words, a lost link is a red break. What travels on a
-lost generation of a link is dashed. A line that did nothing is grey. If losses are missed, the proxy's column says so. With --check nothing is written: it is seen that the picture is
-what would be, and the last line is 'N passed, M failed'.
+Clients are on the left, the proxy in the middle, servers on the right; time goes down. The picture draws what the program reports of each line
+(`--trace`): bytes that move are arrows, a step at one place is a dot with its words, a lost link is a red break. Bytes on a lost generation of a link
+are dashed. A line that did nothing is grey. If losses are missed, the proxy's column says so. With --check nothing is written: the picture must be as
+it would be drawn, and the last line is 'N passed, M failed'.
 """
 import argparse
 import html
@@ -37,7 +37,7 @@ text { font: 13px 'DejaVu Sans Mono', Menlo, monospace; fill: #1b1f24 }
 
 
 def lines_of(script, program):
-    """The script's head and its choice for lost commands, and of each line of what comes whether it did something, and its words."""
+    """The script's head and its choice for lost commands, and for each following line whether it did something, and its words."""
     told = subprocess.run([program, "--trace"], input=script, capture_output=True)
     if told.returncode != 0:
         sys.exit(told.stderr.decode().strip() or f"chart.py: {program} failed")

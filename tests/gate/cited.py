@@ -1,19 +1,19 @@
 #!/usr/bin/env python3
-"""Sees that each file and folder that the documents and the crates' own comments cite is there, and that the toolchain is named right.
+"""Checks that each file and folder that the documents and the crates' own comments cite exists, and that the toolchain is named right.
 
 Usage: cited.py      (README.md, docs/*.md, and the `//!` and `///` comments of crates/*/src)
 
-A word in backquotes is a path where it has a slash, or ends as a source, a script or a document does (`.rt`, `.antt`, `.edit`,
-`.py`, `.sh`, `.md`). It is looked for from the top, among the crates, and beside the document. What is cited as `src/..` or
-`specs/..` is in a crate: that of the comment, or one that the paragraph names; in a document whose paragraph names none, the
-one that was named last. A folder of all crates (`specs/`) and a file without a folder may be anywhere. The words NAME and
-CRATE are any name (`tests/must-fail/CRATE/NAME.edit`). The targets of a document's links are looked for from its folder.
+A word in backquotes is a path if it has a slash, or ends as a source, a script or a document does (`.rt`, `.antt`, `.edit`, `.py`,
+`.sh`, `.md`). It is looked for from the top, among the crates, and beside the document. A path `src/..` or `specs/..` is in a crate:
+that of the comment, or one that the paragraph names; in a document whose paragraph names none, the one that was named last. A folder of
+all crates (`specs/`) and a file without a folder may be anywhere. The words NAME and CRATE are any name
+(`tests/must-fail/CRATE/NAME.edit`). The targets of a document's links are looked for from its folder.
 
 One line of README.md names the kits with which the gate passed, and the logic that they share; no other line of a document names either.
 `rt version` prints both. The logic on this machine must be the one that README.md names; its kit may be another.
 
-It prints a line for each path that is not there, and for each line that has to change for the toolchain; the last line is
-'N passed, M failed', one for each document and crate, and one for the toolchain.
+It prints a line for each path that does not exist, and for each line that must change for the toolchain; the last line is 'N passed, M
+failed', one for each document and crate, and one for the toolchain.
 """
 import pathlib
 import re
@@ -33,7 +33,7 @@ ANY_NAME = re.compile(r"\b(?:NAME|CRATE)\b")
 LOGIC = re.compile(r"\blogic [0-9a-f]{16}\b")
 TOOLCHAIN = re.compile(rf"\brattle-kit-\w+|{LOGIC.pattern}")
 
-# What is no file of this repository: memcached's own document, what a build leaves in the folders out/, and what the system has.
+# Paths outside this repository: memcached's own document, build results in the folders out/, and files of the system.
 ELSEWHERE = re.compile(r"doc/protocol\.txt$|(.*/)?out(/|$)|/")
 
 
@@ -50,7 +50,7 @@ def is_below(folder, path):
 
 
 def is_anywhere(word):
-    """Whether it is a folder that crates have, or a file without a folder, and there is one of that name."""
+    """Whether it is a folder that crates have, or a file without a folder, and one of that name exists."""
     place = "*/" if word.endswith("/") else "**/"
     return "/" not in word.rstrip("/") and any(CRATES.glob(place + word.rstrip("/")))
 
@@ -77,7 +77,7 @@ def comments(source):
 
 
 def missing(file, lines, own=None):
-    """What some lines of a file cite that is not there, with the numbers of the lines. `own` is the crate of the file."""
+    """The paths that some lines of a file cite and that do not exist, with the numbers of the lines. `own` is the crate of the file."""
     last = []
     for first, run in paragraphs(lines):
         named = [CRATES / name for name in CRATE.findall(" ".join(run)) if (CRATES / name).is_dir()]
@@ -95,7 +95,7 @@ def missing(file, lines, own=None):
 
 
 def is_right(file, lines, own=None):
-    """Prints what a file cites that is not there, and says whether it is nothing."""
+    """Prints the paths that a file cites and that do not exist, and returns whether there are none."""
     faults = list(missing(file, lines, own))
     for number, word in faults:
         print(f"{file.relative_to(TOP)}:{number}: {word} is not there")
@@ -103,7 +103,7 @@ def is_right(file, lines, own=None):
 
 
 def names_the_toolchain(documents):
-    """Prints which line has to change for this machine's toolchain, if any has, and says whether none has."""
+    """Prints which line must change for this machine's toolchain, if any, and returns whether none must."""
     version = subprocess.run(["rt", "version"], stdout=subprocess.PIPE, text=True, check=True).stdout.strip()
     own = LOGIC.findall(version)
     named = [

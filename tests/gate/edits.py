@@ -1,13 +1,13 @@
 #!/usr/bin/env python3
 """Tries the must-fail edits that the gate does not: wrong bodies that the prover must refuse, below tests/must-fail.
 
-Usage: edits.py [--read] [CRATE | CRATE/NAME ...]       (a crate's edits, or one of them; all that there are, where none is named)
+Usage: edits.py [--read] [CRATE | CRATE/NAME ...]       (a crate's edits, or one of them; all of them, if none is named)
 
-The crates are copied to a temporary folder, what is built of them too, and have these edits there in the place of the gate's;
-`rt must-fail` tries them, crate by crate. That takes a crate's proof and some 20 seconds an edit, and first the proof of each library below
-that is not built; all that there are take some two hours of processor time. A line for each crate says how many were refused and how long it
-took, and at the end there is one for each edit that was not. With --read it is only seen that each edit can be made: each text that it
-names is in its file exactly once. That is a part of `make test`. The last line is 'N passed, M failed', one for each edit.
+The crates are copied to a temporary folder, with their build results, and have these edits there in place of the gate's; `rt must-fail`
+tries them, crate by crate. That takes a crate's proof and some 20 seconds an edit, and first the proof of each library below that is not
+built; all edits take some two hours of processor time. A line for each crate says how many were refused and how long it took, and at the end
+there is one for each edit that was not. With --read it only checks that each edit can be made: each text that it names is in its file
+exactly once. That is a part of `make test`. The last line is 'N passed, M failed', one for each edit.
 """
 import argparse
 import itertools
@@ -28,7 +28,7 @@ REFUSED = re.compile(r"must-fail (\S+): refused, as it must be")
 
 
 def faults_of(edit):
-    """Why an edit cannot be made: an empty list where it can."""
+    """Why an edit cannot be made: an empty list if it can."""
     faults, text, old, changes = [], "", "", 0
     for line in edit.read_text().splitlines():
         name, _, rest = line.partition(": ")
@@ -44,7 +44,7 @@ def faults_of(edit):
 
 
 def read(edits):
-    """Sees that each edit can be made, and says how many can."""
+    """Checks that each edit can be made, and returns how many can."""
     made = 0
     for edit in edits:
         try:
@@ -58,7 +58,7 @@ def read(edits):
 
 
 def refused(edits):
-    """Has rt try the edits in a copy of the crates, and says how many are refused."""
+    """Lets rt try the edits in a copy of the crates, and returns how many are refused."""
     passed = set()
     with tempfile.TemporaryDirectory() as room:
         for name in ("HANDLES", "crates.txt"):
@@ -74,7 +74,7 @@ def refused(edits):
 
 
 def refused_of(crate, edits, copy):
-    """Has rt try the edits of a crate in a copy of all crates, and gives the names of those that are refused."""
+    """Lets rt try the edits of a crate in a copy of all crates, and returns the names of those that are refused."""
     (copy / crate / "must-fail").mkdir()
     for edit in edits:
         shutil.copy(edit, copy / crate / "must-fail")

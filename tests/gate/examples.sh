@@ -1,15 +1,15 @@
 #!/usr/bin/env bash
-# Plays each script of the folders of tests/examples/ and compares what is printed with what is beside it: the examples of
+# Plays each script of the folders of tests/examples/ and compares the output with the file beside it: the examples of
 # docs/SCRIPTS.md and docs/PROTOCOL.md, and the worked examples over all crates.
 #
 # Usage: examples.sh [PROGRAM [POOLS]]      (mc_sim, as each compiler built it)
 #
-# PROGRAM is played the scripts of a server, and POOLS those of a pool, which begin with `pool`; with PROGRAM alone no pool is played.
+# PROGRAM plays the scripts of a server, and POOLS those of a pool, which begin with `pool`; with PROGRAM alone no pool is played.
 # tests/lib/model.py can take the place of the one, and tests/lib/pool_model.py that of the other.
 #
-# NAME.txt is the script and NAME.out what is printed; NAME.args are words for mc_sim, where there are any. NAME.err, where there is one,
-# is what is written on standard error, with status 2. mc_sim is played each script over each of its stores, and once more with its bytes
-# fed one by one, but for those with words, which ask for an account of each line. Then it is seen that a read and a write that fail are told, and
+# NAME.txt is the script and NAME.out its output; NAME.args are words for mc_sim, if there are any. NAME.err, if it exists, is the text on
+# standard error, with status 2. mc_sim plays each script over each of its stores, and once more with its bytes fed one by one, except
+# those with words, which ask for an account of each line. Then the script checks that mc_sim reports a read and a write that fail, and
 # that the program's words do what they say (sim.help, sim.trace). The program must be built (`make run`, or `rt ci`). It prints a
 # line for each script that fails; the last line is 'N passed, M failed'.
 set -u
@@ -33,7 +33,7 @@ is_of_pool() {
     head -c 5 "$1" | grep -q '^pool '
 }
 
-# Whether a program given a script, and words beside those of the example, writes what is beside the example, and ends as it is to.
+# Whether a program that is given a script, and words beside those of the example, writes the text beside the example, and ends as expected.
 plays() {
     local err=/dev/null status=0 words=
     [ -f "$3.err" ] && err=$3.err status=2
@@ -54,7 +54,7 @@ plays_however() {
     done
 }
 
-# Whether mc_sim says that its input or its output failed.
+# Whether mc_sim reports that its input or its output failed.
 tells() {
     [ "$1" -eq 3 ] && [ "$(cat "$scratch/err")" = 'mc_sim: input or output failed' ]
 }
@@ -86,7 +86,7 @@ refuses_words() {
     [ $? -eq 2 ] && [ ! -s "$scratch/out" ] && [ -s "$scratch/err" ]
 }
 
-# Whether mc_sim says what each line of some scripts does (sim.trace), and prints the same as without that.
+# Whether mc_sim reports what each line of some scripts does (sim.trace), with no other change of its output.
 tells_lines() {
     local name
     for name in pool_points_and_empty_lines pool_lost_where_the_link_is_down pool_drain pool_restart pool_losses_missed_get_of_four_keys; do
@@ -96,7 +96,7 @@ tells_lines() {
     cmp -s "$scratch/trace" sim.trace
 }
 
-# Runs a check, counts it, and tells where it failed.
+# Runs a check, counts it, and prints a line if it failed.
 count() {
     local name=$1
     shift

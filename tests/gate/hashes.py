@@ -1,5 +1,5 @@
 #!/usr/bin/env python3
-"""hashes.py: what the addend in the folded product of mc_table's hasher is for, in models with small words that are counted whole.
+"""hashes.py: why the folded product of mc_table's hasher has an addend, in models with small words that are counted whole.
 
 A word is hashed by one product with a secret factor, whose two halves are joined by exclusive or (`folded_product` in
 crates/mc_table/specs/Hashes.antt, with words of 64 bits). For words of a few bits this counts, over all words and all secret numbers,

@@ -1,14 +1,15 @@
 #!/usr/bin/env python3
-"""Sees that what install/ says of the programs is so: the words of units and of settings, and the libraries of the copyright file.
+"""Checks what install/ says of the programs: the words of units and of settings, and the libraries of the copyright file.
 
 Usage: installed.py
 
 The words of a unit's ExecStart are taken by its program: with its Environment, and with each setting in its comments and in its file of
-install/default. They are options, each with a value just where it takes one, and no other words but servers of a proxy. `--help` says which:
-tests/gate/serverd.help and tests/gate/proxyd.help, which the gate compares with the programs. All other options that these comments name are
-there too. The first setting of a name in a file of install/default is what the unit has without the file. Some wrong words are tried too.
+install/default. They are options, each with a value if and only if it takes one, and no other words except servers of a proxy. `--help` says
+which: tests/gate/serverd.help and tests/gate/proxyd.help, which the gate compares with the programs. All other options that these comments
+name are in there too. The first setting of a name in a file of install/default is the one that the unit has without the file. Some wrong
+words are tried too.
 
-Each library of others that a program of the package uses, by crates.txt, is named in install/debian/libraries. The last line is 'N passed,
+Each third-party library that a program of the package uses, by crates.txt, is named in install/debian/libraries. The last line is 'N passed,
 M failed'.
 """
 
@@ -43,7 +44,8 @@ WRONG = (  # of each unit: a setting that its program does not take
 
 
 def options(help_text):
-    """The options of a text of --help: of each whether its value is a word of its own, and the values that it may have, if these are few."""
+    """The options of a text of --help: for each whether its value is a word of its own, and the values that it may have, if these are
+    few."""
     found = {}
     for name, value, rest in HELP.findall(help_text):
         choices = CHOICES.search(rest)
@@ -52,7 +54,7 @@ def options(help_text):
 
 
 def may_have_value(name, help_text):
-    """Whether an option may have a value behind `=`, though it takes no word of its own."""
+    """Whether an option may have a value after `=`, though it takes no word of its own."""
     return f"{name}[=" in help_text
 
 
@@ -83,7 +85,7 @@ def word_is_taken(word, help_text):
 
 
 def command(unit_text, changes=()):
-    """The words of a unit's ExecStart, with its settings and these in place of them. Of `${NAME}` the value is a part of a word."""
+    """The words of a unit's ExecStart, with its settings and these in place of them. The value of `${NAME}` is a part of a word."""
     settings = {**environment(unit_text), **dict(changes)}
     words = []
     for word in line_of(unit_text, "ExecStart").split()[1:]:
@@ -138,12 +140,12 @@ def checks_of(unit, settings, help_file, wrong):
 
 
 def below(name, uses):
-    """The libraries of others that a crate uses, also by the crates that it uses."""
+    """The third-party libraries that a crate uses, also by the crates that it uses."""
     return set().union(*(below(each, uses) if each in uses else {each} for each in uses[name]))
 
 
 def used():
-    """The libraries of others that a program of the package uses."""
+    """The third-party libraries that a program of the package uses."""
     lines = re.findall(r"^(mc_\w+)[^:\n]*:(.*)$", (TOP / "crates.txt").read_text(), re.MULTILINE)
     uses = {name: rest.split() for name, rest in lines}
     return sorted(set().union(*(below(name, uses) for name in PROGRAMS)))

@@ -1,12 +1,12 @@
 #!/usr/bin/env python3
-"""Sets 10,000 keys through a proxy, and sees that each is at the server that owns it, and at no other.
+"""Sets 10,000 keys through a proxy, and checks that each is at the server that owns it, and at no other.
 
 Usage: keys_at_owners.py PROXY SERVER [--keys N] [--servers N]      (10,000 keys, 5 servers)
 
-PROXY is the built mc_proxyd, or nutcracker, which is in front of the same ring; SERVER is the built mc_serverd, or memcached.
-The owners are those of a model (rings.py). Each server is asked for all keys without the proxy, and then the proxy is. Before
-mc_proxyd one more server joins, and then as many other keys are set: each is at its owner among all. It prints a line for
-each check that fails; the last line is 'N passed, M failed'.
+PROXY is the built mc_proxyd, or nutcracker, which is in front of an equal ring; SERVER is the built mc_serverd, or memcached.
+The owners are those of a model (rings.py). Each server is asked for all keys without the proxy, and then the proxy is. With
+mc_proxyd one more server joins, and then as many other keys are set: each is at its owner among all. The script prints a line
+for each check that fails; the last line is 'N passed, M failed'.
 """
 
 import argparse
@@ -38,7 +38,7 @@ def set_all(connection, keys):
 
 
 def held(connection, keys):
-    """Those of the keys that are held, each with its value."""
+    """The keys that are stored, each with its value."""
     found = {}
     with connection.makefile("rb") as lines:
         for at in range(0, len(keys), KEYS_AT_ONCE):
@@ -52,7 +52,7 @@ def held(connection, keys):
 
 
 def keys_are_at_their_owners(proxy, servers, keys):
-    """Sets the keys through the proxy, looks where each is, and asks for all of them through the proxy."""
+    """Sets the keys through the proxy, checks where each is, and asks for all of them through the proxy."""
     with proxy.connected() as client:
         set_all(client, keys)
         ring, found = Ring([server.address for server in servers]), []

@@ -1,10 +1,10 @@
 #!/usr/bin/env python3
-"""Plays random pipelines to a server that looks ahead and to one that never does, and sees that both send the same bytes.
+"""Plays random pipelines to a server that looks ahead and to one that never does, and checks that both send the same bytes.
 
 Usage: looks.py PROGRAM [SEED ..]      (crates/mc_serverd/out/mc_serverd; seeds 1 and 2)
 
-With 32,768 items or more a server guesses where the items of a pipeline's next keys are, before it serves their requests. With
-`--store lru` it never does. The program is started with each store, for 40,000 items, and both get the same:
+With 32,768 items or more a server guesses the slots of a pipeline's next keys, before it serves their requests. With `--store lru` it
+never does. The program is started with each store, for 40,000 items, and both receive the same bytes:
 
 - a seed plays 750 pipelines of 1 to 60 requests, whole and in pieces, to servers that evict. A fifth of the requests (junk.py) are made
   wrong: more spaces, too many words, bad lengths, blocks of another length, control bytes, long keys, other line ends. Blocks look like
@@ -13,7 +13,7 @@ With 32,768 items or more a server guesses where the items of a pipeline's next 
   server has guessed before it serves the first.
 
 The seconds of two servers begin at different times. So no item dies while they run: an exptime is none, past, or in the year 2096, and no
-reply shows how long an item has.
+reply shows how long an item has left.
 
 It prints a line for each check that fails; the last line is 'N passed, M failed', one for each seed and one for each of these changes.
 """
@@ -82,7 +82,7 @@ class Maker(junk.Maker):
             key, number = self.one_of(self.numbers)
             return f"cas {key} 0 0 1 {number}\r\nx\r\n"
         made = super().request()
-        return made if made != "quit\r\n" else "version\r\n"  # What comes after `quit` would be lost.
+        return made if made != "quit\r\n" else "version\r\n"  # A request after `quit` would be lost.
 
 
 class Faults:
@@ -137,12 +137,13 @@ class Both:
         self.asked = 0
 
     def ended(self, text):
-        """A text with a last request, and the answer to that. Between them is a line as long as what too great a length may take."""
+        """A text with a last request, and the answer to that. Between them is a line as long as the bytes that too great a length may
+        take."""
         self.asked += 1
         return b"%s%s\r\nmd absent O%d\r\n" % (text, b"x" * (MOST_ABOVE + 2), self.asked), b"NF O%d\r\n" % self.asked
 
     def answer(self, text, cuts=()):
-        """What both send for a text, which is the same. It comes in pieces, cut at these places."""
+        """The answer of both to a text, which must be equal. The text arrives in pieces, cut at these places."""
         text, last = self.ended(text)
         for connection in self.connections:
             for start, end in zip([0, *cuts], [*cuts, len(text)]):
@@ -151,7 +152,7 @@ class Both:
 
 
 def answered(connection, last):
-    """What comes, up to the answer to a last request."""
+    """The bytes that arrive, up to the answer to a last request."""
     came = bytearray()
     while not came.endswith(last):
         piece = connection.recv(1 << 20)
@@ -172,7 +173,7 @@ def same(text, answers):
 
 
 def fill(both, dice):
-    """Sets all keys, in any order, and so evicts some. Gives the keys in this order."""
+    """Sets all keys, in any order, and so evicts some. Returns the keys in this order."""
     keys = list(range(KEYS))
     dice.shuffle(keys)
     for at in range(0, KEYS, 500):
@@ -182,7 +183,7 @@ def fill(both, dice):
 
 
 def pipeline_of(maker, faults, flush):
-    """Requests in a row, with a flush among them, or none, and where they are cut."""
+    """Requests in a row, with a flush among them, or none, and the places where they are cut."""
     requests = [faults.made(maker.request().encode("latin-1")) for _ in range(1 + maker.below(LONGEST))]
     requests.insert(maker.below(len(requests) + 1), flush)
     text, pieces = b"".join(requests), maker.one_of([1, 1, 1, 2, 3, 20])
@@ -206,7 +207,7 @@ def refuse_blocks(both):
 
 
 def show(both):
-    """Shows the items of all keys with their numbers, and gives how many there are."""
+    """Shows the items of all keys with their numbers, and returns how many there are."""
     keys = [b" ".join(b"k%d" % key for key in range(first, min(first + 60, KEYS))) for first in range(0, KEYS, 60)]
     return sum(len(NUMBERED.findall(both.answer(b"gets %s\r\n" % some))) for some in keys)
 

@@ -1,12 +1,12 @@
 #!/usr/bin/env python3
-"""Sees that the account notices what it is to notice: pools that make a mistake each, over random worlds.
+"""Checks that the account notices mistakes: pools that make one mistake each, over random worlds.
 
 Usage: pool_mistakes.py [WORLDS [SEED]]      (400 worlds from seed 1 on)
 
-Each pool below is the plain model with one thing done wrong. It plays the scripts of random worlds (random_world.py), and what it tells is
-looked at by the account alone (`faults_of`), without the model beside it: by the events that were done, the texts, the answers and
-the histories. A mistake passes where the account finds fault with some world. The model itself is to be found right in every
-world. Each line says in how many worlds a mistake was noticed; the last line is 'N passed, M failed'.
+Each pool below is the plain model with one thing done wrong. It plays the scripts of random worlds (random_world.py), and its output is
+checked by the account alone (`faults_of`), without the model beside it: by the events that were done, the texts, the answers and the
+histories. A mistake passes if the account finds fault with some world. The model itself must be found right in every world. Each line says
+in how many worlds a mistake was noticed; the last line is 'N passed, M failed'.
 """
 
 import pathlib
@@ -21,7 +21,7 @@ from suite import counted
 
 
 class Forgiving(Pool):
-    """Hears of commands whose request is answered already, and knows how each command is spelled."""
+    """Accepts outcomes of commands whose request is answered already, and knows how each command is spelled."""
 
     def __init__(self, script):
         super().__init__(script)
@@ -65,7 +65,7 @@ class SentAgain(Forgiving):
 
 
 class KeptAndSent(SentAgain):
-    """A command whose link is down is told to be lost, and sent once the link is back."""
+    """A command whose link is down is reported lost, and sent once the link is back."""
 
     lost = Pool.lost
 
@@ -80,7 +80,7 @@ class KeptAndSent(SentAgain):
 
 
 class WaitingKept(SentAgain):
-    """What waits for a reply still waits after a loss, so that a reply meets another command."""
+    """Pending commands are still pending after a loss, so that a reply meets another command."""
 
     def lost(self, place):
         site = self.sites[place]
@@ -205,14 +205,14 @@ class StoredWhenDown(Pool):
 
 
 class AlwaysLost(Pool):
-    """Every command is told to be lost."""
+    """Every command is reported lost."""
 
     def becomes(self, tag, outcome):
         super().becomes(tag, None)
 
 
 class LosesTheTaken(Forgiving):
-    """A loss makes lost what was already replied."""
+    """A loss makes commands lost that were already replied."""
 
     def lost(self, place):
         site = self.sites[place]
@@ -244,7 +244,7 @@ class OtherBytes(Pool):
 
 
 class Unfinished(Pool):
-    """The last bytes of what a client was sent are missing."""
+    """The last bytes that a client was sent are missing."""
 
     def told(self, done):
         told = super().told(done)
@@ -252,7 +252,7 @@ class Unfinished(Pool):
 
 
 class OtherText(Pool):
-    """A client's text has lost what came after its `quit`, or its last byte."""
+    """A client's text has lost the bytes after its `quit`, or its last byte."""
 
     def told(self, done):
         told = super().told(done)
@@ -272,7 +272,7 @@ class SilentFaults(Pool):
 
 
 class LostOften(Pool):
-    """A get whose keys are partly lost is told so for each of them."""
+    """A get whose keys are partly lost reports it for each of them."""
 
     def emit(self, number):
         client = self.clients[number]
@@ -293,14 +293,14 @@ class LostStored(Pool):
 
 
 class MissTold(Pool):
-    """Where losses are missed, a retrieval with a lost command is told so."""
+    """If losses are missed, a retrieval with a lost command reports it."""
 
     def answer(self, request, outcomes):
         return LINK_LOST if request.miss and None in outcomes else super().answer(request, outcomes)
 
 
 class MissedWhole(Pool):
-    """Where losses are missed, a retrieval with a lost command shows no other key's item."""
+    """If losses are missed, a retrieval with a lost command shows no other key's item."""
 
     def answer(self, request, outcomes):
         if request.miss and None in outcomes:
@@ -309,7 +309,7 @@ class MissedWhole(Pool):
 
 
 class HiddenTold(Pool):
-    """Where losses are missed, a request that hides its reply is told of one."""
+    """If losses are missed, a request that hides its reply reports a loss."""
 
     def answer(self, request, outcomes):
         told = request.quiet and not request.miss and None in outcomes
@@ -317,7 +317,7 @@ class HiddenTold(Pool):
 
 
 class HidesAll(Pool):
-    """Where losses are missed, each request says nothing of one."""
+    """If losses are missed, each request hides its loss."""
 
     def answer(self, request, outcomes):
         answer = super().answer(request, outcomes)
@@ -325,7 +325,7 @@ class HidesAll(Pool):
 
 
 class FirstShown(Pool):
-    """Where losses are missed, a key of a lost command shows the first key's reply."""
+    """If losses are missed, a key of a lost command shows the first key's reply."""
 
     def answer(self, request, outcomes):
         if self.losses == "missed" and request.miss and outcomes[0] is not None:
@@ -334,7 +334,7 @@ class FirstShown(Pool):
 
 
 class SaysQuietMisses(Pool):
-    """Where losses are missed, `mg` with `q` answers `EN`."""
+    """If losses are missed, `mg` with `q` answers `EN`."""
 
     def answer(self, request, outcomes):
         says = self.losses == "missed" and request.miss == b"EN\r\n" and None in outcomes
@@ -342,7 +342,7 @@ class SaysQuietMisses(Pool):
 
 
 class OtherLosses(Pool):
-    """Losses are missed where they are to be told, and told where they are to be missed."""
+    """Losses are missed when they should be reported, and reported when they should be missed."""
 
     def __init__(self, script):
         super().__init__(script)
@@ -350,7 +350,7 @@ class OtherLosses(Pool):
 
 
 class ToldRefused(Pool):
-    """A store is told to have been refused memory that was not."""
+    """A store is reported as refused memory that was not."""
 
     def told(self, done):
         told = super().told(done)
@@ -360,7 +360,7 @@ class ToldRefused(Pool):
 
 
 class LaterFirst(Pool):
-    """A server takes the commands that came last first."""
+    """A server takes the commands that arrived last first."""
 
     def told(self, done):
         told = super().told(done)
@@ -376,7 +376,7 @@ class LaterFirst(Pool):
 
 
 class OthersFirst(LaterFirst):
-    """A server takes two clients' commands the other way round, where none of the replies tells."""
+    """A server takes two clients' commands in reverse order, if none of the replies shows it."""
 
     def exchanges(self, first, second):
         return first.client != second.client and first.moment == second.moment and first.reply == second.reply == b"OK\r\n"
@@ -395,7 +395,7 @@ class AnsweredUnserved(Forgiving):
 
 
 class LostInvents(Forgiving):
-    """What is lost is still answered by a miss."""
+    """A lost command is still answered by a miss."""
 
     def lost(self, place):
         site = self.sites[place]
@@ -424,7 +424,7 @@ class LeavesTheLast(Pool):
 
 
 class DrainsAtZero(Pool):
-    """In a drain servers take what comes at moment 0."""
+    """In a drain servers take their requests at moment 0."""
 
     def drain(self, moment):
         super().drain(0)
@@ -446,7 +446,7 @@ class KeepsTheLate(Pool):
 
 
 class KeepsTheCache(Pool):
-    """A server that restarts has its items still."""
+    """A server that restarts still has its items."""
 
     def restart(self, place):
         cache = self.sites[place].cache
@@ -456,7 +456,7 @@ class KeepsTheCache(Pool):
 
 
 class KeepsTheNumbers(Pool):
-    """A server that restarts goes on counting its items' numbers."""
+    """A server that restarts continues the numbers of its items."""
 
     def restart(self, place):
         number = self.sites[place].cache.counter

@@ -1,16 +1,15 @@
 #!/usr/bin/env python3
-"""Sees that what a world tells is as it must be, over random worlds: proxy, servers, links and clients, with all that can happen to them.
+"""Checks the output of a world over random worlds: proxy, servers, links and clients, with all that can happen to them.
 
 Usage: pools.py [--worlds N] [--seed S] [--losses told|missed] [--program PROGRAM]      (200 worlds from seed 1 on; mc_sim as it was built)
        pools.py --write SEED [--losses told|missed]                                     (writes the script of a seed)
 
-The program plays the script of a random world (random_world.py) with `--account`, and then two things are seen: that each event was
-done where a plain model of a pool does it, and left the same texts, answers and histories (pool_model.py, `Pool`); and that the
-account holds of what was told, by the events that were done alone (`faults_of`), those that the model does in each drain among them.
-After a drain each whole request of each client that has not gone is answered, and nothing that a pool does by itself applies. What
-clients are told of losses is the world's own choice, or with --losses the same in all. At the
-first world that differs the script is made shorter while it still does, and is printed with what is wrong; the exit status is then 1.
-The last line is 'N passed, M failed', in worlds.
+The program plays the script of a random world (random_world.py) with `--account`, and then two things are checked. Each event was done if
+and only if a plain model of a pool does it, and left the same texts, answers and histories (pool_model.py, `Pool`). And the account holds
+of the output, by the events that were done alone (`faults_of`), those that the model does in each drain among them. After a drain each
+whole request of each client that has not gone is answered, and nothing that a pool does by itself applies. What clients are answered about
+losses is the world's own choice, or with --losses the same in all. At the first world that differs the script is made shorter while it
+still does, and is printed with its faults; the exit status is then 1. The last line is 'N passed, M failed', in worlds.
 """
 
 import argparse
@@ -29,7 +28,7 @@ from random_world import lines_of_world
 from suite import are_built, built
 
 
-# What a program tells
+# The output of a program.
 
 
 class Failed(Exception):
@@ -71,7 +70,7 @@ def read_told(text):
 
 
 def differences(script, told):
-    """What is wrong in what was told, beside the model's."""
+    """The differences between the output and the model's."""
     model = played(script)
     for number, (got, wanted) in enumerate(zip(told.done, model.done)):
         if got != wanted:
@@ -85,8 +84,8 @@ INNER = ("turn", "toserver", "serve", "toproxy", "reply", "emit", "takes", "end"
 
 
 def left_after_drain(script, told):
-    """What is wrong after the last drain of a script, where only events follow that a pool does by itself: none is to apply, and each
-    client that has not gone was sent an answer to each of its whole requests."""
+    """The faults after the last drain of a script, if only events follow that a pool does by itself: none may apply, and each client
+    that has not gone was sent an answer to each of its whole requests."""
     names = [event[0] for event in script.events]
     last = max((at for at, name in enumerate(names) if name == "drain"), default=len(names))
     if any(name not in INNER for name in names[last + 1 :]):
@@ -98,8 +97,8 @@ def left_after_drain(script, told):
 
 
 def is_answered(client, losses, told):
-    """Whether a client was sent an answer to each request of its text, and no more. It is found here by the histories alone: a command
-    that has an entry was answered or lost, and one that has none was lost."""
+    """Whether a client was sent an answer to each request of its text, and no more. The histories alone show it here: a command that
+    has an entry was answered or lost, and one that has none was lost."""
     replies = collections.defaultdict(dict)
     for history in told.histories:
         for entry in history:
@@ -113,7 +112,7 @@ def is_answered(client, losses, told):
 
 
 def answers_to(request, replies, losses):
-    """What a request may have been answered of which these commands have replies."""
+    """The possible answers to a request whose commands have these replies."""
     if not request.atoms:
         return {request.answer([])}
     count = max([len(request.atoms), *(atom + 1 for atom in replies)])
@@ -122,7 +121,7 @@ def answers_to(request, replies, losses):
 
 
 def wrong_in(lines, program):
-    """What is wrong where a program plays a script; nothing where that is no script."""
+    """The faults when a program plays a script; none if that is no script."""
     try:
         script = Script(lines)
     except (BadLine, ValueError):
@@ -134,7 +133,7 @@ def wrong_in(lines, program):
 
 
 def shortened(lines, program):
-    """A script that still differs, with no line in it that could go."""
+    """A script that still differs, from which no line can be removed."""
     size = len(lines) // 2
     while size:
         at = 1

@@ -1,14 +1,14 @@
 #!/usr/bin/env python3
-"""Sees that no cut of a client's bytes matters: each beginning of them is answered by a beginning of the answers, and where they
-come in two pieces, wherever they are cut, the answers are the same.
+"""Checks that no cut of a client's bytes matters: each beginning of them is answered by a beginning of the answers, and if they arrive
+in two pieces, wherever they are cut, the answers are equal.
 
 Usage: prefixes.py [PROGRAM]      (crates/mc_sim/out/mc_sim, as it was built)
 
 The bytes are those of each server script of tests/examples/ that has one client and at most 1,000 bytes. Each beginning, and each pair
-of pieces, is played to mc_sim, with a turn of each piece for each of its lines and one more, and what is printed is compared
-with what a model answers where nothing is cut (model.py). Each has a new server where items' numbers are compared; all others of a
-script are clients of one, each after a flush, so that what another stored is gone, and only numbers go on. It prints a line for
-each script that fails; the last line is 'N passed, M failed'.
+of pieces, is played to mc_sim, with a turn of each piece for each of its lines and one more, and the output is compared with the
+answers of a model if nothing is cut (model.py). Each has a new server if items' numbers are compared; all others of a script are
+clients of one, each after a flush, so that the items of another are gone, and only numbers continue. The script prints a line for each
+script that fails; the last line is 'N passed, M failed'.
 """
 import concurrent.futures
 import os
@@ -28,7 +28,7 @@ COMPARES = re.compile(rb"^cas |^m[ads] .* C[0-9]", re.MULTILINE)
 
 
 class Input:
-    """What the client of a script sends: pieces, each with the moment of its turns."""
+    """The input of a script's client: pieces, each with the moment of its turns."""
 
     def __init__(self, script):
         lines = lines_of(script.read_bytes())
@@ -50,7 +50,7 @@ class Input:
         return [(moment, piece) for moment, piece in some if piece]
 
     def played(self):
-        """Each beginning, and each cut in two; and beside it the same uncut."""
+        """Each beginning, and each cut in two; and beside it the bytes uncut."""
         size = len(self.text)
         begun = [self.between(0, count) for count in range(size + 1)]
         cut = [(self.between(0, at) + self.between(at, size), self.pieces) for at in range(1, size)]
@@ -62,7 +62,7 @@ def turns(piece):
 
 
 def told(server, pieces):
-    """What a model answers to a new client."""
+    """The answers of a model to a new client."""
     connection = Connection()
     for moment, piece in pieces:
         connection.unread += b"" if connection.closed else piece
@@ -72,7 +72,7 @@ def told(server, pieces):
 
 
 def wanted(bounds, played):
-    """What is to be printed of clients that send pieces, one after another, with a flush before each but the first."""
+    """The expected output for clients that send pieces, in sequence, with a flush before each except the first."""
     server = Server(0, *bounds)
     for number, pieces in enumerate(played):
         if number:
@@ -82,7 +82,7 @@ def wanted(bounds, played):
 
 
 def printed(program, bounds, played):
-    """What mc_sim prints of them. The last client is the one that flushes."""
+    """The output of mc_sim for them. The last client is the one that flushes."""
     flushes = len(played)
     lines = [f"server {flushes + 1} {bounds[0]} {bounds[1]}"]
     for number, pieces in enumerate(played):

@@ -1,11 +1,11 @@
 #!/usr/bin/env python3
-"""Sees that `prove.py` proves crates in order, side by side, once, and leaves nothing half made.
+"""Checks that `prove.py` proves crates in order, side by side, once, and leaves nothing half made.
 
 Usage: proving.py
 
 It is tried in temporary repositories whose `rt` is a stand-in that proves nothing: it notes when it begins and ends and where, waits
-a little, and writes what `rt` leaves in out/. A crate whose text says so fails, or takes long, or does not end.
-The last line is 'N passed, M failed'.
+a little, and writes the files of `rt` in out/. A crate whose text says so fails, or takes long, or does not end. The last line is 'N
+passed, M failed'.
 """
 import contextlib
 import json
@@ -111,7 +111,7 @@ class Repository:
         return subprocess.Popen([self.top / "prove.py", "--processors", "4", *words], env={**os.environ, **more}, **how)
 
     def prove(self, *words, status=0):
-        """What the stand-in noted of a run with that status, by crate, and what was printed."""
+        """The stand-in's notes of a run with that status, by crate, and the output."""
         self.log.write_text("")
         process = self.start(*words)
         said, _ = process.communicate(timeout=3 * PATIENCE)
@@ -126,7 +126,7 @@ class Repository:
         return {note["name"]: note for note in notes}
 
     def want_nothing_left(self):
-        """No copy is left, and beside crates there is only what was there."""
+        """No copy is left, and beside crates there is only what was there before."""
         want(sorted(it.name for it in self.top.iterdir()), [".git", "HANDLES", "crates", "crates.txt", "prove.py"])
         want(list((self.top / ".git").iterdir()), [])
 
@@ -170,7 +170,7 @@ def the_longest_chain_comes_first(repository):
 
 
 def a_copy_has_what_the_crate_needs(repository):
-    """Its text is no link: it stays the same though the crate's is written anew."""
+    """Its text is no link: it stays even if the crate's is written anew."""
     notes, _ = repository.prove("program", "apart")
     want(notes["left"]["uses"], {"low": [], "left": ["low"]})
     want(notes["apart"]["uses"], {"apart": []})
@@ -274,7 +274,7 @@ def a_library_that_is_used_stays_as_it_was(repository):
 
 
 def want_ended(number):
-    """A process is gone, or is so soon."""
+    """A process has ended, or ends soon."""
     for _ in range(100):
         try:
             os.kill(number, 0)

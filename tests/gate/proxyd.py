@@ -4,8 +4,8 @@ clients and servers.
 
 Usage: proxyd.py PROXY SERVER
 
-SERVER is the built mc_serverd. proxyd.help is the text of --help. It prints a line for each check that fails; the last line is
-'N passed, M failed'. Which server owns a key is known from a model of the ring (rings.py). In some checks the script itself plays
+SERVER is the built mc_serverd. proxyd.help is the text of --help. The script prints a line for each check that fails; the last
+line is 'N passed, M failed'. A model of the ring shows which server owns a key (rings.py). In some checks the script itself plays
 the servers: so it sees what each is sent, and answers what it likes. All that is started is ended with its check.
 """
 
@@ -39,8 +39,8 @@ from servers import HOST, Proxy, Server, free_port
 from suite import are_built
 
 HELP = pathlib.Path(__file__).with_name("proxyd.help").read_text()
-LINK_MARK = 8_388_608  # as many unsent bytes on a link stop the requests that need it
-IDLE, PROCESSOR = 3, 0.1  # in as many seconds of doing nothing a proxy has as many of the processor at most
+LINK_MARK = 8_388_608  # unsent bytes on a link that stop the requests that need it
+IDLE, PROCESSOR = 3, 0.1  # seconds without requests, and the most seconds of processor time that a proxy uses in them
 
 DIALOGUES = {
     "expiry": (
@@ -58,7 +58,7 @@ DIALOGUES = {
     ),
 }
 
-# --check: the words beside it, and what is printed of them.
+# --check: the words beside it, and its output.
 OTHERS = [f"10.0.0.{number}:11211" for number in range(64)]
 SETTINGS = {
     "two": ("127.0.0.1:11213", "servers 2 points 320"),
@@ -97,7 +97,7 @@ NO_SERVER, DOUBLED, ONE_TOO_MANY = (
     "is no [<name>:<port>=]<host>:<port>", "has the name of an earlier one", "is one too many: at most 64 servers",
 )  # fmt: skip
 
-# What is no word of a server, behind 127.0.0.1:1.
+# Words that are no server, after 127.0.0.1:1.
 BAD_WORDS = {
     "an_empty_word": "", "no_port": "a", "no_host": ":1", "port_0": "a:0", "port_65536": "a:65536", "a_leading_zero": "a:01", "a_sign": "a:+1",
     "a_colon_alone": ":", "two_colons": "a:1:2", "a_space": "a:1 ", "another_alphabet": "\u00e4:1", "an_underscore": "a_b:1",
@@ -105,7 +105,7 @@ BAD_WORDS = {
     "a_name_without_a_port": "a=b:1", "an_address_without_a_port": "a:1=b",
 }  # fmt: skip
 
-# What is no list of servers behind 127.0.0.1:1, and why.
+# Lists that are no list of servers after 127.0.0.1:1, and why.
 BAD_LISTS = {
     "one_twice": (["127.0.0.1:1"], f"server 2 '127.0.0.1:1' {DOUBLED}"),
     "65": (OTHERS, f"server 65 '{OTHERS[-1]}' {ONE_TOO_MANY}"),
@@ -120,7 +120,7 @@ BAD_LISTS = {
     "a_65th_joins": (["--join-after", "1", "--join", "a:1", *OTHERS[1:]], f"--join 'a:1' {ONE_TOO_MANY}"),
 }
 
-# Strange bytes, where `get <key>` waits for its reply.
+# Protocol violations, while `get <key>` is pending.
 STRANGE = {
     "a_line_of_no_reply": b"HELLO\r\n",
     "an_error_line": b"ERROR\r\n",
@@ -136,7 +136,7 @@ STRANGE = {
 
 
 def start(words="", limits=(), says=True):
-    """A proxy with these words and limits in front of two servers, which has said where it listens, if it can."""
+    """A proxy with these words and limits in front of two servers, which has reported where it listens, if it can."""
     with open("/dev/full", "wb") as full:
         return Pool(words.split(), limits, stdout=subprocess.PIPE if says else full)
 
@@ -226,7 +226,7 @@ def a_server_that_is_gone_is_told_and_used_again():
 
 
 def commands_that_wait_are_told():
-    """A server stops with commands waiting, and is killed. Answers stay in the order of the requests."""
+    """A server is stopped with pending commands, and killed. Answers stay in the order of the requests."""
     with Pool() as pool, pool.connected() as client, pool.connected() as other:
         mine, others = (pool.ring.key(place) for place in (0, 1))
         is_served(client)
@@ -239,7 +239,7 @@ def commands_that_wait_are_told():
 
 
 def a_proxy_starts_before_its_servers():
-    """Once they are there they are used, though nobody has asked in the meantime."""
+    """Once they run they are used, though nobody has asked in the meantime."""
     with Pool() as pool:
         addresses = [server.address for server in pool.servers]
         pool.servers[1].stop()
@@ -254,7 +254,7 @@ def a_proxy_starts_before_its_servers():
 
 
 def idle_costs_little(proxy):
-    """A proxy that nobody asks takes little of the processor."""
+    """A proxy without requests uses little of the processor."""
     before = sum(proxy.user_and_system())
     time.sleep(IDLE)
     want_at_most(sum(proxy.user_and_system()) - before, PROCESSOR)
@@ -328,14 +328,14 @@ def allow_memory(proxy, most):
 
 
 def a_reply_without_memory_is_said():
-    """The link is lost by it, and comes back."""
+    """The link is lost by it, and comes up again."""
     with Played() as pool, pool.connected() as client:
         address = pool.servers[0].address
         _, _, get, shown = stored(b"a", b"v" * 1_000_000)
         client.sendall(get)
         want(received(pool.links[0], len(get)), get)
         allow_memory(pool, pool.memory("VmSize"))
-        was_reset = False  # What was told once, as an error of a write, a read does not tell again.
+        was_reset = False  # A read does not report again what was reported once, as an error of a write.
         try:
             pool.links[0].sendall(shown)
         except (ConnectionResetError, BrokenPipeError):
@@ -385,7 +385,7 @@ def at_most_one_line_is_said_in_a_second():
 
 
 def nothing_is_said_where_it_cannot_be():
-    """Standard error is full, or closed: clients are served all the same."""
+    """Standard error is full, or closed: clients are still served."""
     read, write = os.pipe()
     os.close(read)
     with open("/dev/full", "wb") as full, open(write, "wb") as closed:
@@ -397,7 +397,7 @@ def nothing_is_said_where_it_cannot_be():
 
 
 def losses_leave_nothing_behind():
-    """Of servers that are gone and back no socket stays open."""
+    """No socket of servers that are gone and back stays open."""
     with Pool(count=6) as pool, pool.connected() as client:
         gets = [b"get %s\r\n" % pool.ring.key(place) for place in range(6)]
         is_served(client)
@@ -487,7 +487,7 @@ def answers_are_in_the_order_of_the_requests():
 
 
 def what_comes_together_goes_on_together():
-    """Commands that come in one piece are sent in one, and so are the answers to replies that come in one."""
+    """Commands that arrive in one piece are sent in one, and so are the answers to replies that arrive in one."""
     with Played() as pool, pool.connected() as client:
         [link] = pool.links
         is_served(client)
@@ -533,7 +533,7 @@ def quit_waits_for_answers():
 
 
 def strange_bytes_lose_the_link():
-    """Both commands that wait are told so, and not a byte of them comes; other links stay, and the next one is used."""
+    """Both pending commands are answered so, and not a byte of theirs is sent; other links stay, and the next one is used."""
     with Played(len(STRANGE)) as pool, pool.connected() as client:
         keys = [pool.ring.key(place) for place in range(len(STRANGE))]
         for place, (name, strange) in enumerate(STRANGE.items()):
@@ -570,8 +570,8 @@ def half_a_reply_is_no_reply():
 
 
 def a_slow_reader_is_waited_for():
-    """Who sends gets of a large value and reads nothing holds nobody up, and is answered whole once it reads: also where the proxy
-    waits while it reads, so that all that was unsent goes out by one write, and more is known."""
+    """A client that sends gets of a large value and reads nothing delays nobody, and gets its whole answers once it reads. This
+    holds also if the proxy waits while it reads, so that all unsent bytes go out by one write, and more is known."""
     with Pool() as pool, pool.connected() as other, pool.connected() as slow:
         put, told, get, shown = stored(pool.ring.key(0), b"v" * 1_000_000)
         asked(other, put, told)
@@ -591,7 +591,7 @@ def a_slow_reader_is_waited_for():
 
 
 def one_who_asks_too_much_waits():
-    """No more than 1,024 requests of a client wait for their answers; the others go on."""
+    """At most 1,024 requests of a client wait for their answers; the others are served."""
     with Played() as pool, pool.connected() as greedy, pool.connected() as client:
         [link] = pool.links
         greedy.sendall(b"get a\r\n" * 3_000)
@@ -609,7 +609,7 @@ def one_who_asks_too_much_waits():
 
 
 def a_server_that_reads_nothing_is_waited_for():
-    """What is sent to it is kept up to the mark of a link, and no more; others are served, and all goes on once it reads."""
+    """Bytes for it are kept up to the mark of a link, and no more; others are served, and all continues once it reads."""
     with Played(2) as pool, pool.connected() as client, pool.connected() as late, pool.connected() as other:
         key, others = (pool.ring.key(place) for place in (0, 1))
         put, told, get, _ = stored(key, b"v" * 1_000_000)
@@ -630,7 +630,7 @@ def a_server_that_reads_nothing_is_waited_for():
 
 
 def who_ends_its_input_is_answered():
-    """Also what waits for a server then, which it is sent."""
+    """Also commands that are pending for a server then, which it is sent."""
     with Played() as pool, pool.connected() as client:
         client.sendall(b"get a\r\nincr b 1\r\nget")
         client.shutdown(socket.SHUT_WR)
@@ -641,7 +641,7 @@ def who_ends_its_input_is_answered():
 
 
 def who_is_kept_too_much_for_waits():
-    """Until it is owed nothing: no request of it is taken, and it is answered in order, and whole. Others are served."""
+    """Until its answers are sent, no request of it is taken; it is answered in order, and whole. Others are served."""
     with Played(2, ["--held", "1000000", "--timeout", "0"]) as pool, pool.connected() as client, pool.connected() as other:
         mine, others = (pool.ring.key(place) for place in (0, 1))
         _, _, get, shown = stored(mine, b"v" * 1_000_000)
@@ -665,7 +665,8 @@ def who_is_kept_too_much_for_waits():
 
 
 def a_late_reply_loses_the_link():
-    """Once it is late by the oldest command that waits, and no sooner: what waits is told, and what comes then reaches nobody."""
+    """Once it is late by the oldest pending command, and no sooner: pending commands are answered, and bytes that arrive later
+    reach nobody."""
     with Played(2, ["--timeout", "400"]) as pool, pool.connected() as client, pool.connected() as other:
         (mine, others), late = (pool.ring.key(place) for place in (0, 1)), pool.links[0]
         begun = time.monotonic()
@@ -689,7 +690,7 @@ def a_late_reply_loses_the_link():
 
 
 def a_slow_server_that_answers_is_kept():
-    """Each of its replies comes in time, though one always waits."""
+    """Each of its replies arrives in time, though one is always pending."""
     with Played(1, ["--timeout", "1500"]) as pool, pool.connected() as client:
         [link] = pool.links
         client.sendall(b"get a\r\n")
@@ -705,7 +706,7 @@ def a_slow_server_that_answers_is_kept():
 
 
 def a_report_is_said():
-    """Each second: what was done for clients, and what became of each server."""
+    """Each second: what was done for clients, and what happened to each server."""
     with Played(2, ["--report", "1", "--timeout", "0"]) as pool, pool.connected() as client:
         keys = [pool.ring.key(place) for place in (0, 1)]
         gets = [b"get %s\r\n" % key for key in keys]
@@ -728,7 +729,7 @@ def a_report_is_said():
 
 
 def next_report(pool):
-    """The next line on standard error that tells of clients."""
+    """The next line on standard error that is about clients."""
     while True:
         [line] = lines_said(pool)
         if " uptime=" in line:

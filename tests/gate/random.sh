@@ -3,9 +3,9 @@
 #
 # Usage: random.sh [SEEDS [COMMANDS]]      (20 seeds from 1 on, 10,000 commands each)
 #
-# For each seed there are two scripts: one whose commands come whole or in two pieces, and one of a tenth of the commands
-# whose bytes come one by one, with a turn after each. mc_sim must be built (`make run`, or `rt ci`); both of its builds
-# are played where both are there. It prints a line for each script that fails; the last line is 'N passed, M failed'.
+# For each seed there are two scripts: one whose commands arrive whole or in two pieces, and one of a tenth of the commands
+# whose bytes arrive one by one, with a turn after each. mc_sim must be built (`make run`, or `rt ci`); both of its builds
+# are played if both exist. It prints a line for each script that fails; the last line is 'N passed, M failed'.
 set -u
 cd "$(dirname "$0")"
 seeds=${1:-20}
@@ -26,7 +26,7 @@ trap 'rm -rf "$scratch"' EXIT
 passed=0
 failed=0
 
-# Plays the script of a seed, of so many commands, in these pieces.
+# Plays the script of a seed, of this number of commands, in these pieces.
 play() {
     ../lib/random_script.py "$2" "$1" 8 "$3" > "$scratch/script" \
         && ../lib/model.py < "$scratch/script" > "$scratch/wanted" || return 1

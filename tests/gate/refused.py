@@ -1,15 +1,14 @@
 #!/usr/bin/env python3
-"""Refuses each allocation of a test in turn, and sees that the test passes all the same.
+"""Refuses each allocation of a test in turn, and checks that the test still passes.
 
 Usage: refused.py PROGRAM TEST [COUNT ..]     (crates/mc_server_tests/out/mc_server_tests_tests or crates/mc_pool_tests/out/mc_pool_tests_tests, as `rt ci`
 or `rt test` built it, a test's name, and how many in a row are refused: once 1 and once 3, if none is given)
 
-The program is run again and again with a library in front of the C library, which refuses the Nth allocation, for N from 1
-until none is left to refuse, and those after it too, COUNT in all. The test has to make a call again that was
-refused memory, and then has to find all as it would have been; or, where a store was answered so, all else as the cache has it
-then. (Where a store asks for one piece of memory, three refusals in a row may refuse several stores, which the test does not foresee.)
-The library is that of refusing.py. A line is printed for each N at which the test
-fails; the last line is 'N passed, M failed', one for each COUNT.
+The program is run repeatedly with a library in front of the C library, which refuses the Nth allocation, for N from 1 until none is left to refuse,
+and those after it too, COUNT in all. The test must make a call again that was refused memory, and then must find all as it would have been; or, if a
+store was answered so, all else as the cache has it then. (If a store asks for one piece of memory, three refusals in a row may refuse several stores,
+which the test does not foresee.) The library is that of refusing.py. A line is printed for each N at which the test fails; the last line is 'N
+passed, M failed', one for each COUNT.
 """
 import os
 import pathlib
@@ -24,7 +23,7 @@ from suite import are_built, counted
 
 
 def refuses(library, program, test, count):
-    """Refuses so many allocations of a test from each of them on, and says whether any was refused and the test passed each time."""
+    """Refuses this many allocations of a test from each of them on, and returns whether any was refused and the test passed each time."""
     first, refused, is_so = 1, count, True
     while refused:
         ran, refused = refusing.run(library, [program, test], first, count, stdin=subprocess.DEVNULL)

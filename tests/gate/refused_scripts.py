@@ -1,12 +1,12 @@
 #!/usr/bin/env python3
-"""Refuses each allocation of mc_sim in turn, over each script of tests/examples/ that has a line, and sees that all goes right.
+"""Refuses each allocation of mc_sim in turn, over each script of tests/examples/ that has a line, and checks the outcome.
 
 Usage: refused_scripts.py [PROGRAM]      (crates/mc_sim/out/mc_sim, as it was built)
 
-Where an allocation is refused, mc_sim ends with status 4, says that it is out of memory, and has printed nothing; or all is as
-where none is refused; or one store is refused: it is answered `SERVER_ERROR out of memory storing object`, and all else is what
-a model prints that then leaves its items, their order and its numbers as they were (model.py, pool_model.py). The library that
-refuses is that of refusing.py. It prints a line for each script that fails; the last line is 'N passed, M failed'.
+If an allocation is refused, there are three right outcomes. mc_sim ends with status 4, says that it is out of memory, and has printed
+nothing. Or all is as if none were refused. Or one store is refused: it is answered `SERVER_ERROR out of memory storing object`, and all
+else is the output of a model that then leaves its items, their order and its numbers as they were (model.py, pool_model.py). The
+library that refuses is that of refusing.py. The script prints a line for each script that fails; the last line is 'N passed, M failed'.
 
 Scripts of a link that is lost, and of a get whose keys two servers have, are played over each store that mc_sim has.
 
@@ -78,7 +78,7 @@ def printed_with(stores, script):
 
 
 def with_one_refused(script):
-    """What is printed where one store is refused, for each store."""
+    """The output if one store is refused, for each store."""
     told = set()
     for refused in itertools.count(1):
         stores = Stores(refused)
@@ -89,13 +89,13 @@ def with_one_refused(script):
 
 
 def run(library, words, script, number, count=1, least=0):
-    """The status, the output and the errors of a run with so many allocations refused from this one on, and whether there was one."""
+    """The status, the output and the errors of a run with this many allocations refused from this one on, and whether there was one."""
     ran, refused = refusing.run(library, words, number, count, least, input=script)
     return (ran.returncode, ran.stdout, ran.stderr), refused > 0
 
 
 def fault_of(library, script, words):
-    """What is wrong where an allocation of a script is refused, if anything is."""
+    """The fault if an allocation of a script is refused, if any."""
     calm, _ = run(library, words, script, 0)
     others = with_one_refused(script) if calm[0] == 0 else set()
     for number in itertools.count(1):
@@ -108,7 +108,7 @@ def fault_of(library, script, words):
 
 
 def long_scripts():
-    """A script of a server, and one of a pool, of so many lines: a client counts."""
+    """A script of a server, and one of a pool, of this many lines: a client counts."""
     rounds = MANY_LINES // 2
     alone = [line for number in range(rounds) for line in (rf"bytes 0 set k{number % 99} 0 0 1\r\n{number % 10}\r\n", "turn 0 1")]
     steps = (r"bytes 0 incr n 1\r\n", "turn 0", "toserver 0 1 all", "serve 0 1 100", "toproxy 0 all", "reply 0")
@@ -118,7 +118,7 @@ def long_scripts():
 
 
 def fault_of_long(library, script, words):
-    """What is wrong where a growth of a list of many lines is refused, or where none is, if anything is."""
+    """The fault if a growth of a list of many lines is refused, or if none is, if any."""
     calm, _ = run(library, words, script, 0)
     if calm != (0, printed_with(Stores(0), script).encode(), b""):
         return "is not played as the model plays it"
@@ -131,14 +131,14 @@ def fault_of_long(library, script, words):
 
 
 def stores(program):
-    """The words for each store that mc_sim has; none, where it has one alone."""
+    """The words for each store that mc_sim has; none, if it has only one."""
     words = [["--store", name] for name in ("list", "lru", "table")]
     script = examples()[0].read_bytes()
     return [each for each in words if subprocess.run([program, *each], input=script, capture_output=True).returncode == 0] or [[]]
 
 
 def is_printed(library, words, script, wanted):
-    """Whether a script prints this where some allocations are refused."""
+    """Whether a script prints this if some allocations are refused."""
     for count in (1, 2, 3):
         for number in itertools.count(1):
             ended, was_refused = run(library, words, script, number, count)
@@ -150,7 +150,7 @@ def is_printed(library, words, script, wanted):
 
 
 def are_refused(library, program, scripts):
-    """Says of each script that has a text for a refusal, over each store, whether the text is printed."""
+    """Reports for each script that has a text for a refusal, over each store, whether the text is printed."""
     for script in scripts:
         wanted = script.with_suffix(".refused")
         for words in stores(program) if wanted.is_file() else ():
@@ -161,7 +161,7 @@ def are_refused(library, program, scripts):
 
 
 def played(program, scripts):
-    """Of each script what names it in a line on its failure, its text, and the words that play it."""
+    """For each script its name in a line on its failure, its text, and the words that play it."""
     for script in scripts:
         yield script, script.read_bytes(), [program]
         for words in stores(program) if script.stem in OVER_EACH_STORE else ():

@@ -3,9 +3,8 @@
 
 Usage: serverd.py PROGRAM
 
-serverd.help is the text of --help. It prints a line for each check that fails; the last line is 'N passed, M failed'. Each
-server listens at a port of 127.0.0.1 that was free a moment ago, and is ended with its check. What a proxy does with connections
-as well is in connections.py.
+serverd.help is the text of --help. The script prints a line for each check that fails; the last line is 'N passed, M failed'. Each server
+listens at a port of 127.0.0.1 that was free a moment ago, and is ended with its check. connections.py has the checks that a proxy shares.
 """
 
 import contextlib
@@ -31,7 +30,7 @@ HELP = pathlib.Path(__file__).with_name("serverd.help").read_text()
 VALUE = b"v" * 1_000_000
 ANSWER = b"VALUE k 0 1000000\r\n" + VALUE + b"\r\nEND\r\n"
 
-# --check: the words beside it, and what is printed of them.
+# --check: the words beside it, and its output.
 SETTINGS = {
     "the_defaults": ("", "listen 127.0.0.1:11211 budget 67108864 items 65536 accept 0"),
     "the_least": (
@@ -115,10 +114,10 @@ REFUSED = {
 }
 
 
-# What is there before a command: nothing, the item `k`, or a dead one.
+# The state before a command: nothing, the item `k`, or a dead one.
 BEFORE = {"absent": [], "held": [b"set k 0 0 1\r\n5\r\n"], "dead": [b"set k 0 -1 1\r\n5\r\n"]}
 
-# A command on the key `k`, and by how much it moves (hits, misses, stores, expired) where `k` is absent, held and dead.
+# A command on the key `k`, and by how much it changes (hits, misses, stores, expired) if `k` is absent, stored and dead.
 NOTHING, HIT, MISS, STORE = (0, 0, 0, 0), (1, 0, 0, 0), (0, 1, 0, 0), (0, 0, 1, 0)
 DEAD_MISS, DEAD, DEAD_STORE = (0, 1, 0, 1), (0, 0, 0, 1), (0, 0, 1, 1)
 COUNTED = {
@@ -160,7 +159,7 @@ COUNTED = {
 
 
 def start(words="", limits=(), says=True):
-    """A server that was started with these words and limits, and has said where it listens, if it can."""
+    """A server that was started with these words and limits, and has reported where it listens, if it can."""
     port = free_port()
     words = ["--listen", f"{HOST}:{port}", *words.split()]
     with open("/dev/full", "wb") as full:
@@ -169,7 +168,7 @@ def start(words="", limits=(), says=True):
 
 
 def no_memory_to_start_is_told():
-    """Whatever is refused at the start, before it says that it listens."""
+    """Whatever is refused at the start, before it reports that it listens."""
     for items, most in (("16777216", 100_000), ("1000000", 60_000)):
         words = ["--listen", f"{HOST}:{free_port()}", "--items", items]
         want(PROGRAM.run(*words, limits=[(resource.RLIMIT_AS, most * KILOBYTE)]), (4, "", "mc_serverd: out of memory\n"))
@@ -217,7 +216,7 @@ def first_number(words):
         return int(received_to_the_end(client).removeprefix(b"HD c"))
 
 
-# How much memory a server may take, by its words: what it says at its start, if an operator reads it.
+# How much memory a server may take, by its words: what it reports at its start, if an operator reads it.
 SAID_OF_MEMORY = {
     "": ["may take 79.1 MB: budget 67.1 MB, 65,536 items", "65,536 items of 120 bytes fill 12.1 MB of 67.1 MB: write --items auto"],
     "--items auto": ["may take 134.4 MB: budget 67.1 MB, 559,240 items"],
@@ -239,7 +238,7 @@ SAID_OF_MEMORY = {
 
 
 def how_much_memory_is_said_at_the_start():
-    """If it is asked for, and else nothing; with the limit of its addresses, if that is lower. (A control group's is left out here.)"""
+    """If it is asked for, and otherwise nothing; with the limit of its addresses, if that is lower. (A control group's is left out here.)"""
     for words, lines in SAID_OF_MEMORY.items():
         for form in FORMS[1:]:
             want((words, said_at_the_start(words, form)), (words, lines))
@@ -258,7 +257,7 @@ def said_at_the_start(words, form="", limits=()):
 
 
 def a_server_that_is_full_of_items_says_so():
-    """If more than half of the budget is free, once, with the words to write; else not at all."""
+    """If more than half of the budget is free, once, with the words to write; otherwise not at all."""
     for budget, told in ((397, ["full at 3 items, while more than half of --budget is free: write --items auto"]), (396, [])):
         with start(f"--items 3 --budget {budget}") as server:
             with server.connected() as client:
@@ -272,7 +271,7 @@ def a_server_that_is_full_of_items_says_so():
 
 
 def more_than_65535_items_are_stored():
-    """Either store holds 70,000 items, its limit; one more evicts the one that was used least recently, and no other."""
+    """Either store stores 70,000 items, its limit; one more evicts the one that was used least recently, and no other."""
     count = 70_000
     for kind in ("table", "lru"):
         with start(f"--items {count} --store {kind}") as server, server.connected() as client:
@@ -286,9 +285,9 @@ def more_than_65535_items_are_stored():
 
 
 def a_slow_reader_is_waited_for():
-    """Who sends 100 gets of a large value and reads nothing costs the mark and one answer, and holds nobody up. The allocator keeps
-    one freed answer resident once a server has sent two, so these are sent before: with it and the item the server stays below the
-    mark and three answers, all told."""
+    """A client that sends 100 gets of a large value and reads nothing costs the mark and one answer, and delays nobody. The allocator
+    keeps one freed answer resident once a server has sent two, so these are sent before: with it and the item the server stays below the
+    mark and three answers in all."""
     with start() as server, server.connected() as other, server.connected() as slow:
         asked(other, b"get k\r\n", b"END\r\n")
         empty = settles(server.memory)
@@ -310,8 +309,8 @@ def a_slow_reader_is_waited_for():
 
 
 def too_large_an_answer_is_refused():
-    """A request whose answer may be larger than is allowed closes its connection, and is not made; others are served. It is said,
-    at most once in a second, with how many such lines were suppressed. Where the request is cut plays no part."""
+    """A request whose answer may be larger than is allowed closes its connection, and is not executed; others are served. It is reported,
+    at most once in a second, with how many such lines were suppressed. It does not matter where the request is cut."""
     keys = b" k" * 300
     for answer, asks in (
         (2_000_000, b"gat -1 k k\r\n"),
@@ -359,7 +358,7 @@ def a_report_is_said():
 
 
 def counts_of(server, requests):
-    """What a server reports of hits, misses, stores, dead items and evictions, once it has taken so many requests."""
+    """The counts of hits, misses, stores, dead items and evictions that a server reports, once it has taken this many requests."""
     fields = {"requests": ""}
     for _ in range(9):
         fields = fields_of(lines_said(server)[0], "mc_serverd")
@@ -369,7 +368,7 @@ def counts_of(server, requests):
 
 
 def each_command_is_counted(at, before):
-    """Which counts each command moves, and by how much, where its key is absent, held or dead: each by a server of its own."""
+    """Which counts each command changes, and by how much, if its key is absent, stored or dead: each by a server of its own."""
     with contextlib.ExitStack() as stack:
         tried = []
         for command, moves in COUNTED.items():
@@ -383,17 +382,17 @@ def each_command_is_counted(at, before):
             want((command, counts_of(server, requests)), (command, wanted))
 
 
-# So many items that a server guesses where the keys of a pipeline are, and requests that let it do so: they find nothing.
+# So many items that a server guesses the slots of a pipeline's keys, and requests that let it do so: they find nothing.
 MANY = 33_000
 AFTER = b"".join(b"touch of-an-item-that-is-not-there-%d 0\r\n" % number for number in range(4))
-# These end all that is held, or all that is read: they come last. Two of the others name the number of an item.
+# These end all items, or all reading: they are last. Two of the others name the number of an item.
 LAST = (b"flush_all 9", b"flush_all", b"quit")
 NUMBERED = {b"cas k 0 0 1 1\r\nx": b"cas k 0 0 1 %d\r\nx", b"ms k 1 C1\r\nx": b"ms k 1 C%d\r\nx"}
 
 
 def commands_are_counted_among_many_items(at, before):
-    """The same in one server of many items, each command in a pipeline and on a key of its own: the sums of what they move. An item has
-    the number of stores so far."""
+    """Likewise in one server of many items, each command in a pipeline and on a key of its own: the sums of their changes. An item has the
+    number of stores so far."""
     told = [(command, COUNTED[command][at]) for command in (*(command for command in COUNTED if command not in LAST), *LAST)]
     sent, stored = [b"set p%d 0 0 1 noreply\r\nx\r\n" % number for number in range(MANY)], MANY
     for number, (command, moves) in enumerate(told):
@@ -411,8 +410,8 @@ def commands_are_counted_among_many_items(at, before):
 
 
 def idle_connections_hold_little():
-    """1,000 clients each store and read a large value. Idle, they cost less than 100 MB beside the items. One of them has
-    stored a value for a second, which is gone by then."""
+    """1,000 clients each store and read a large value. Idle, they cost less than 100 MB beside the items. One of them has stored a value
+    for a second, which has expired by then."""
     budget = 67_108_864
     with start(f"--budget {budget}", [(resource.RLIMIT_NOFILE, 2_000)]) as server:
         clients = [server.connected() for _ in range(1_000)]
@@ -432,7 +431,7 @@ def idle_connections_hold_little():
 
 
 def no_memory_closes_connections_alone():
-    """Where there is no memory for what clients send, they are told or closed, and the server goes on."""
+    """If there is no memory for the bytes of clients, they are answered or closed, and the server continues."""
     limits = [(resource.RLIMIT_AS, 40_000 * KILOBYTE), (resource.RLIMIT_NOFILE, 2_000)]
     with start("--items 1000", limits) as server:
         told = b"SERVER_ERROR out of memory storing object\r\n"
@@ -453,7 +452,8 @@ def no_memory_closes_connections_alone():
 
 
 def operators_keep_their_descriptors():
-    """While clients have all that are left for them, operators are answered. That no more are accepted is said, once."""
+    """While clients have all descriptors that are left for them, operators are answered. The server reports once that no more are
+    accepted."""
     admin = free_port()
     with start(f"--admin {HOST}:{admin}", [(resource.RLIMIT_NOFILE, 40)]) as server:
         most = 40 - 5 - 18
@@ -479,7 +479,7 @@ def operators_keep_their_descriptors():
 
 
 def until_end(connection):
-    """What comes, with its last line END."""
+    """The bytes that arrive, with its last line END."""
     came = b""
     while not came.endswith(b"END\r\n"):
         piece = connection.recv(65_536)
@@ -497,7 +497,7 @@ REFUSED_LINE = re.compile(r"mc_serverd: out of memory: ([0-9]+) refused")
 
 
 def start_with_little(words, reserve=0):
-    """A server that may take little memory more than it has at its start, and keeps so much in reserve."""
+    """A server that may take little more memory than it has at its start, and keeps this much in reserve."""
     server = start(f"--items 100000 --budget 1G --reserve {reserve} {words}")
     pages = pathlib.Path(f"/proc/{server.process.pid}/statm").read_text().split()[0]
     most = int(pages) * resource.getpagesize() + LITTLE
@@ -514,12 +514,12 @@ class Filler:
         self.closed = 0  # how often its connection was closed
 
     def store(self, size, last=b""):
-        """A line and a value of so many bytes under a new key."""
+        """A line and a value of this many bytes under a new key."""
         self.number += 1
         return b"set f%d 0 0 %d%s\r\n%s\r\n" % (self.number, size, last, b"v" * size)
 
     def answered(self, text, end):
-        """What a text is answered, to this end; what came by then, if its connection is closed."""
+        """The answer to a text, to this end; the bytes that arrived by then, if its connection is closed."""
         answer = b""
         try:
             if self.client is None:
@@ -543,7 +543,7 @@ class Filler:
         self.answered(many + b"version\r\n", b"VERSION 1.6.0\r\n")
 
     def is_refused(self, size):
-        """Whether a value of so many bytes is refused, or its connection is closed."""
+        """Whether a value of this many bytes is refused, or its connection is closed."""
         answer = self.answered(self.store(size), b"\r\n")
         want(answer in (b"", NO_MEMORY, b"STORED\r\n"), True)
         return answer != b"STORED\r\n"
@@ -568,13 +568,13 @@ class Filler:
         self.close()
 
 
-# a value for whose bytes there is no memory as they come
+# a value for whose bytes there is no memory when they arrive
 LARGE = 1_000_000
 
 
 def no_memory_ends_who_is_asked_to(sizes):
     """A server that is refused memory and stores nothing ends after the seconds, with its line and its status. Hits meanwhile change
-    nothing. Each second it says how many were refused."""
+    nothing. Each second it reports how many were refused."""
     with start_with_little("--memory-exit 3") as server, Filler(server) as filler:
         with server.connected() as reader:
             asked(reader, b"set k 0 0 1\r\nx\r\n", b"STORED\r\n")
@@ -595,8 +595,8 @@ def no_memory_ends_who_is_asked_to(sizes):
 
 
 def refused_stores_are_counted(size):
-    """Each store that is answered that there is no memory is counted, with noreply and in a pipeline too; the line as a value is not. Each
-    second it says how many calls were refused, such stores among them."""
+    """Each store that is answered that memory is missing is counted, with noreply and in a pipeline too; the line as a value is not. Each
+    second it reports how many calls were refused, such stores among them."""
     with start_with_little("--report 1") as server, Filler(server) as filler:
         shown = b"set k 0 0 43\r\n%s\r\nget k\r\n" % NO_MEMORY
         with server.connected() as reader:
@@ -622,7 +622,7 @@ def refused_stores_are_counted(size):
 
 
 def no_memory_ends_nobody_else():
-    """A server that is not asked to end stays, says each second how many were refused, and counts each."""
+    """A server without that option stays, reports each second how many were refused, and counts each."""
     with start_with_little("--report 1") as server, Filler(server) as filler:
         filler.fill(5_000)
         begun = time.monotonic()
@@ -654,8 +654,8 @@ def a_store_ends_the_row_of_refusals():
 
 
 def without_memory_what_is_held_is_served(size, turns):
-    """A server that keeps a reserve and whose memory is used up serves gets and sets of the keys that it holds, on connections that were idle
-    and on new ones, however often keys that it does not hold are refused between. Nobody is closed. After deletes it stores anew."""
+    """A server that keeps a reserve and whose memory is used up serves gets and sets of its stored keys, on connections that were idle and
+    on new ones, however often missing keys are refused between. Nobody is closed. After deletes it stores anew."""
     value = b"w" * size
     stored, shown = b"set k 0 0 %d\r\n%s\r\n" % (size, value), b"VALUE k 0 %d\r\n%s\r\nEND\r\n" % (size, value)
     with start_with_little("--memory-exit 3", "4M") as server, Filler(server) as filler:
@@ -664,7 +664,7 @@ def without_memory_what_is_held_is_served(size, turns):
             asked(client, stored, b"STORED\r\n")
         first = filler.number + 1
         filler.fill(size)
-        # By then idle clients have given their memory back, so a few more are stored.
+        # By then idle clients have returned their memory, so a few more are stored.
         time.sleep(3.2)
         filler.fill(size)
         for turn in range(turns):

@@ -3,11 +3,10 @@
 
 Usage: spellings.py [SEEDS [CASES [PROGRAM]]]      (seeds 1 to 100, 1,000 cases each, mc_tools as it was built)
 
-A case is a random command as some client writes it, and bytes that come in answer: a reply or several, spelled from the
-tables below, whole or with one byte changed, taken out or added, or cut off, in random pieces. Nothing here is taken
-from the crates: a command's spelling is made from its parts, and whether bytes are a reply is found by trying each form
-of the list of its replies, one after the other. It prints the first cases of a seed that fail, and last 'N passed, M
-failed', in seeds.
+A case is a random command as some client writes it, and bytes that arrive in answer: a reply or several, spelled from the tables
+below, whole or with one byte changed, removed or added, or cut off, in random pieces. Nothing here is taken from the crates: a
+command's spelling is made from its parts, and whether bytes are a reply is found by trying each form of the list of its replies, in
+sequence. The script prints the first cases of a seed that fail, and last 'N passed, M failed', in seeds.
 """
 
 import base64
@@ -33,7 +32,7 @@ MARKS = [b"", b" W", b" W X", b" X Z", b" Z"]
 
 
 class Number:
-    """A number of at most so much, without a leading zero."""
+    """A number of at most this, without a leading zero."""
 
     def __init__(self, most):
         self.most = most
@@ -142,7 +141,7 @@ def number(dice, most=U64):
 
 
 def loosely(dice, digits):
-    """A number as a client may write it, with zeros in front; the protocol reads at most 20 digits."""
+    """A number as a client may write it, with leading zeros; the protocol reads at most 20 digits."""
     sign, digits = ("-", digits[1:]) if digits.startswith("-") else ("", digits)
     zeros = dice.randrange(0, 20 - len(digits) + 1) if dice.random() < 0.2 and len(digits) < 20 else 0
     return sign + "0" * zeros + digits
@@ -265,7 +264,7 @@ def meta(dice):
 
 
 def mistaken(dice, text):
-    """The same bytes with one of them changed, taken out or added."""
+    """The bytes with one of them changed, removed or added."""
     at = dice.randrange(len(text))
     byte = bytes([dice.choice([13, 10, 32, 48, 49, 57, 65, 87, 88, 90, dice.randrange(256)])])
     return dice.choice([text[:at] + byte + text[at + 1 :], text[:at] + text[at + 1 :], text[:at] + byte + text[at:]])
@@ -281,7 +280,7 @@ def pieces(dice, text):
 
 
 def case(dice):
-    """A line for the program, and the line that it is to print."""
+    """A line for the program, and its expected line."""
     text, spelling, forms = dice.choice([retrieval, storage, other, meta, meta])(dice)
     answer = b"".join(made_form(dice, dice.choice(forms)) for _ in range(dice.choice([1, 1, 1, 2, 3])))
     if dice.random() < 0.5:
@@ -304,7 +303,7 @@ def case(dice):
 
 
 def play(program, seed, count):
-    """Whether each case of a seed is printed as it is to be. Those that are not are shown."""
+    """Whether each case of a seed has its expected line. Those that have not are printed."""
     dice = random.Random(seed)
     cases = [case(dice) for _ in range(count)]
     lines = "".join(line + "\n" for line, _ in cases)

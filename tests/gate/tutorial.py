@@ -1,14 +1,14 @@
 #!/usr/bin/env python3
-"""Makes the change that docs/DEVELOPING.md teaches, in a scratch copy, and sees that its commands pass.
+"""Makes the change that docs/DEVELOPING.md teaches, in a scratch copy, and checks that its commands pass.
 
 Usage: tutorial.py
 
-The texts, the files that they go to and the commands are read from docs/DEVELOPING.md, steps 1 to 5. The copy has the crate, the crates that
-it uses, what is built of them, and `prove.py` and `tests/`; it is removed at the end. The change is a definition at the end of a file of
-specs/, a method at the end of a file of src/, whose last `ghost use` line gets a name, and a wrong body that the prover must refuse. `rt fmt` may
-change nothing of it. Where nothing is built, as after `rt ci`, the crates are proved from nothing: that takes one and a half minutes.
+The texts, the files that they go to and the commands are read from docs/DEVELOPING.md, steps 1 to 5. The copy has the crate, the crates that it
+uses, their build results, and `prove.py` and `tests/`; it is removed at the end. The change is a definition at the end of a file of specs/, a
+method at the end of a file of src/, whose last `ghost use` line gets a name, and a wrong body that the prover must refuse. `rt fmt` may change
+nothing of it. If nothing is built, as after `rt ci`, the crates are proved from nothing: that takes one and a half minutes.
 
-It prints what a command that fails says, and nothing is tried after it. The last line is 'N passed, M failed', one for each command.
+It prints the output of a command that fails, and tries nothing after it. The last line is 'N passed, M failed', one for each command.
 """
 import pathlib
 import re
@@ -82,7 +82,7 @@ def write(room, step):
 
 
 def runs(command, folder):
-    """Whether a command ends well in a folder; where it does not, prints what it says."""
+    """Whether a command ends well in a folder; if it does not, its output is printed."""
     ran = subprocess.run(command.split(), cwd=folder, stdout=subprocess.PIPE, stderr=subprocess.STDOUT, text=True)
     if ran.returncode:
         print(f"tutorial.py: {command} ended with status {ran.returncode}:\n{ran.stdout[-3000:]}")
@@ -90,7 +90,7 @@ def runs(command, folder):
 
 
 def made(room):
-    """Makes the steps in a folder, and says of each command whether it passes, until one does not."""
+    """Makes the steps in a folder, and reports for each command whether it passes, until one does not."""
     first, defined, written, proved, refused = (steps()[number] for number in range(1, 6))
     crate = pathlib.PurePath(written.file).parts[1]
     copy(crate, room)

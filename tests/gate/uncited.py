@@ -1,10 +1,10 @@
 #!/usr/bin/env python3
-"""Sees that something cites each definition and each lemma: what nothing cites is to be believed or proved for nothing.
+"""Checks that something cites each definition and each lemma: one that nothing cites would be believed or proved for nothing.
 
-Usage: uncited.py      (crates/*/specs and crates/*/proofs, but the files that belong to one function)
+Usage: uncited.py      (crates/*/specs and crates/*/proofs, except the files that belong to one function)
 
-A definition is a run of lines between empty ones. It is cited where one of its names comes in another such run, in a source, or in
-an edit. An import does not cite.
+A definition is a run of lines between empty ones. It is cited if one of its names is in another such run, in a source, or in an
+edit. An import does not cite.
 
 It prints a line for each that nothing cites; the last line is 'N passed, M failed', one for each file.
 """
@@ -21,7 +21,7 @@ WORD = re.compile(r"[A-Za-z_][A-Za-z0-9_'-]*")
 NAMED = re.compile(r"(?:abbrev |unfoldable )?(?:pub )?(?:abbrev )?(?:record |data |ruleset )?([A-Za-z_][A-Za-z0-9_'-]*)")
 IMPORT = re.compile(r"^(?:pub )?(?:use|mod) .*$", re.MULTILINE)
 
-# What is written of one function's proof: the check reads each of its answers.
+# Files of one function's proof: the check reads each of its answers.
 OF_A_FUNCTION = {"Answers.antt", "Invariants.antt", "Proof.antt", "Lib.antt"}
 
 # Words at the start of a line that begin no definition.
@@ -43,7 +43,7 @@ def names_in(run):
 
 
 def uncited(text, uses):
-    """The names of each definition of a file that nothing but itself cites."""
+    """The names of each definition of a file that nothing except itself cites."""
     for run in text.split("\n\n"):
         names, own = names_in(run), collections.Counter(WORD.findall(run))
         if names and all(uses[name] <= own[name] for name in names):

@@ -1,14 +1,15 @@
 #!/usr/bin/env python3
-"""Sees that the dashboard and the alerts of install/ ask for what the programs show to Prometheus.
+"""Checks that the dashboard and the alerts of install/ ask for metrics that the programs show to Prometheus.
 
 Usage: watched.py [--promtool]
 
 The programs show the metrics that `metric_name` defines (crates/mc_admin/specs/Names.antt). Each metric in install/dashboard.json and
-install/alerts.yml is one of these, with their labels, and is named in docs/RUNNING.md. The dashboard shows each, but those of UNSHOWN.
-Each panel says what it shows, and each alert what it is about.
+install/alerts.yml is one of these, with their labels, and is named in docs/RUNNING.md. The dashboard shows each, except those of
+UNSHOWN. Each panel says what it shows, and each alert what it is about.
 
 With --promtool (Debian: prometheus), by hand: promtool takes the rules, and each expression of the dashboard, and
-tests/by_hand/alerts_fire.yml shows that each alert fires in foul weather, and none in calm. The last line is 'N passed, M failed'.
+tests/by_hand/alerts_fire.yml shows that each alert fires under bad conditions, and none under normal ones. The last line is 'N passed,
+M failed'.
 """
 
 import json
@@ -54,7 +55,7 @@ def rules():
 
 
 def asked(expression):
-    """The metrics that an expression asks for: those of Prometheus itself, as `up`, are not looked at."""
+    """The metrics that an expression asks for: those of Prometheus itself, such as `up`, are ignored."""
     return set(NAME.findall(expression))
 
 

@@ -1,16 +1,15 @@
-"""Clients that know which answers are right while servers are lost: of each key of theirs what it may hold.
+"""Clients that know which answers are right while servers are lost: for each of their keys what it may hold.
 
-A client sends batches of requests on keys of its own. A value says its key and the number of the request that stored it, and an
-opaque the number of the request that it answers. `Wrong` is raised where something else comes than the answer of the request whose turn
-it is:
+A client sends batches of requests on keys of its own. A value has its key and the number of the request that stored it, and an opaque the
+number of the request that it answers. `Wrong` is raised if anything arrives except the answer of the next request:
 
 - another's value, one that was never stored under its key, or one that a newer command has replaced;
-- no value, where one was stored, its server was not killed since, and no deletion of it may still be done;
-- a command that is said to be lost, while nothing happened to its server;
+- no value, if one was stored, its server was not killed since, and no deletion of it may still be done;
+- a command that is reported lost, while nothing happened to its server;
 - a missing answer, or one too many.
 
-A store or a deletion that was said to be lost, or was never answered, is done at most once: before, later, or never. What shows that it
-was done after a newer command is right, and counted as late.
+A store or a deletion that was reported lost, or was never answered, is done at most once: before, later, or never. An answer that shows
+that it was done after a newer command is right, and counted as late.
 """
 
 import collections
@@ -28,7 +27,7 @@ class Closed(Wrong):
 
 
 class Trouble:
-    """What happens to a server, as clients of one proxy may notice it: it goes on while `count` is odd."""
+    """What happens to a server, as clients of one proxy may notice it: it continues while `count` is odd."""
 
     def __init__(self, count=0):
         self.count = count
@@ -40,13 +39,13 @@ class Trouble:
         self.count += 1
 
     def was_since(self, count):
-        """Whether it goes on, or did so since it had this count."""
+        """Whether it continues, or did so since it had this count."""
         return count % 2 == 1 or self.count != count
 
 
 class Lives:
-    """How often a server was killed, after which it is empty: `count` goes up before that, and once more after it, so that no command of
-    the time between seems to be of the next life."""
+    """How often a server was killed, after which it is empty: `count` is increased before that, and once more after it, so that no
+    command of the time between seems to be of the next life."""
 
     def __init__(self):
         self.count = 0
@@ -60,7 +59,7 @@ class Lives:
 
 
 class Pause:
-    """Where clients rest between batches while they have no leave."""
+    """The place at which clients rest between batches while they have no leave."""
 
     def __init__(self, patience):
         self.leave, self.lock, self.resting, self.patience = threading.Event(), threading.Lock(), 0, patience
@@ -76,7 +75,7 @@ class Pause:
 
     @contextlib.contextmanager
     def all_rest(self, count, look):
-        """A block in which all clients rest, so many. While they are waited for, they are looked at."""
+        """A block in which this many clients, all of them, rest. While they are waited for, they are checked."""
         self.leave.clear()
         deadline = time.monotonic() + self.patience
         while self.resting < count:
@@ -93,7 +92,7 @@ class Key:
 
     def __init__(self, name, server, lives, may_be_late):
         self.name, self.server, self.lives, self.may_be_late = name, server, lives, may_be_late
-        self.held = None  # the number of the request that stored what is held
+        self.held = None  # the number of the request that stored its item
         self.known = 0  # the number of the command whose answer showed that
         self.life = 0  # of its server, when that command was sent
         self.stores, self.deletions = set(), set()  # the numbers of those that may still be done
@@ -102,8 +101,8 @@ class Key:
         return b"%s of %d " % (self.name, number) * (1 + number * 7919 % (10_000 if number % 50 == 0 else 20))
 
     def shows(self, number, life, value):
-        """A command of this number, sent in this life of its server, was shown this value, or none. Gives whether that shows that a command
-        was late."""
+        """A command of this number, sent in this life of its server, was shown this value, or none. Returns whether that shows that a
+        command was late."""
         if value is None:
             return self.is_none(number, life)
         shown = self.number_in(value)
@@ -138,7 +137,7 @@ class Key:
         return is_late
 
     def is_known(self, held, number, life):
-        """What is held is known now, by the answer of a command of this number."""
+        """Its state is known now, by the answer of a command of this number."""
         self.held, self.known, self.life = held, number, life
         self.stores.discard(held)
         if not self.may_be_late:
@@ -147,7 +146,7 @@ class Key:
 
 
 class Request:
-    """The bytes of a request, and what looks at its answer. With no answer it enters the doubts, those of its key."""
+    """The bytes of a request, and the check of its answer. With no answer it enters the doubts, those of its key."""
 
     def __init__(self, number, text, look, doubts=None):
         self.number, self.text, self.look, self.doubts = number, text, look, doubts
@@ -163,7 +162,7 @@ def is_answer(line, answer):
 
 
 class Answers:
-    """The answers on a connection, as they come."""
+    """The answers on a connection, as they arrive."""
 
     def __init__(self, connection):
         self.file = connection.makefile("rb")
@@ -204,7 +203,7 @@ class Client:
         self.connection.close()
 
     def batch(self):
-        """Sends requests, and looks at their answers. Those that get none are in doubt."""
+        """Sends requests, and checks their answers. Those that get none are in doubt."""
         requests = collections.deque(self.request() for _ in range(self.dice.randrange(1, 30)))
         known, is_known = self.known()
         try:
@@ -228,8 +227,8 @@ class Client:
         return kind(self.dice.choice(self.keys), self.number)
 
     def watched(self, *keys):
-        """What says later whether a line says that a command on these keys was lost, as it may where something happened to their
-        servers. A store or a deletion is in doubt then."""
+        """The check that a line later reports a command on these keys as lost, as it may if something happened to their servers. A store
+        or a deletion is in doubt then."""
         places = {key.server for key in keys}
         counts = [(self.troubles[place], self.troubles[place].count) for place in places]
 
@@ -243,7 +242,7 @@ class Client:
         return is_lost
 
     def known(self):
-        """A request whose answer is known: its text, and what looks at a line. It is told by its opaque."""
+        """A request whose answer is known: its text, and the check of a line. Its opaque identifies it."""
         self.number += 1
         answer = b"NF O%d\r\n" % self.number
         return b"md %s O%d\r\n" % (self.none, self.number), lambda line: is_answer(line, answer)
@@ -268,7 +267,7 @@ class Client:
         return self.stores(key, number, b"ms %%s %%d O%d" % number, b"HD O%d\r\n" % number)
 
     def silent(self, key, number):
-        """A store that is answered only where it was lost, and after it a request whose answer is known."""
+        """A store that is answered only if it was lost, and after it a request whose answer is known."""
         text = self.set(key, number).text.replace(b"\r\n", b" noreply\r\n", 1)
         life, is_lost = key.lives.count, self.watched(key)
         known, is_known = self.known()

@@ -1,7 +1,7 @@
-"""What the scripts share that try a built program on sockets: what came beside what is wanted, the bytes of a connection, what a
-program says to its words, and the count of the checks.
+"""What scripts share that try a built program on sockets: the comparison of results, the bytes of a connection, the output of a
+program for its words, and the count of the checks.
 
-A check is a function that raises an error where it fails: `Wrong`, where something else came than is wanted.
+A check is a function that raises an error if it fails: `Wrong`, if a result is not the expected one.
 """
 
 import datetime
@@ -21,13 +21,13 @@ from suite import CRATES, NAME, counted
 
 PATIENCE = 10  # seconds until a check gives up
 KILOBYTE = 1024
-MARK = 4_194_304  # as many unsent bytes stop a connection's turns
+MARK = 4_194_304  # unsent bytes that stop a connection's turns
 VERSION = re.search(r'VERSION: &str = "(.*)"', (CRATES / "mc_program/src/version.rt").read_text())[1]
 FAILURES = (OSError, RuntimeError, ValueError, subprocess.SubprocessError)
 
 
 class Wrong(Exception):
-    """What came is not what is wanted."""
+    """A result is not the expected one."""
 
 
 def want(got, wanted):
@@ -49,7 +49,7 @@ def shortened(value):
 
 
 def received(connection, count):
-    """As many bytes, or those that came before the end."""
+    """This many bytes, or those that arrived before the end."""
     came = bytearray()
     while len(came) < count:
         piece = connection.recv(min(count - len(came), 1 << 20))
@@ -64,7 +64,7 @@ def received_to_the_end(connection):
 
 
 def asked(connection, text, answer):
-    """Sends a text and sees that its answer comes."""
+    """Sends a text and checks that its answer arrives."""
     connection.sendall(text)
     want(received(connection, len(answer)), answer)
 
@@ -92,7 +92,7 @@ FORMS = ("", "--log", "--log=text", "--log=json")  # the words that ask for them
 
 
 def plain(line, form):
-    """A line that was said in a form, as it is without it. Its time is that of now, in UTC."""
+    """A line that was written in a form, without that form. Its time is that of now, in UTC."""
     if not form:
         return line
     if form == "--log=json":
@@ -108,7 +108,7 @@ def plain(line, form):
 
 
 def plain_lines(text, form):
-    """The same of all lines of a text."""
+    """Likewise for all lines of a text."""
     return "".join(plain(line, form) + "\n" for line in text.splitlines())
 
 
@@ -161,7 +161,7 @@ def output_that_fails_is_told(program):
         want(program.run("--check", stdout=full), (1, "", f"{program.name}: output failed\n"))
 
 
-# What is no number of bytes from 1 to 1,099,511,627,776. 64 bits cannot tell the last two.
+# Words that are no number of bytes from 1 to 1,099,511,627,776. 64 bits cannot hold the last two.
 NO_SIZES = [
     "", "0", "0G", "1025G", "1073741825k", "1099511627777", "1T", "1GB", "1KiB", "G", "1.5G", "1,024", "+1", "-1", "1 G", " 1", "G1", "K2K",
     "17179869185G", "18446744073709551616",
@@ -169,7 +169,7 @@ NO_SIZES = [
 
 
 def wrong_sizes_are_refused(program, option, least, words=(), most=1024):
-    """A word that is no number of bytes, with K, M or G or without, or one outside the limits, of which the upper is told in G."""
+    """A word that is no number of bytes, with K, M or G or without, or one outside the limits, whose upper one is given in G."""
     why = f"invalid value for '--{option} <bytes>': neither in {least}..={most << 30} nor a number of K, M or G up to {most}G"
     for word in (*NO_SIZES, *words):
         if least == 0 and word in ("0", "0G"):
@@ -186,7 +186,7 @@ def a_port_in_use_is_told(program):
         it_cannot_listen(program, f"{HOST}:{other.getsockname()[1]}")
 
 
-# What is no address to listen at.
+# Words that are no address to listen at.
 NO_ADDRESSES = ["", "a", ":1", "127.0.0.1:0", "127.0.0.1:65536", "127.0.0.1:01", "[::1]:1", "192.0.2.1:1"]
 UNKNOWN_HOSTS = ["a" * 64 + ":1", "unknown.invalid:1"]
 
@@ -200,7 +200,8 @@ CAUSES = {
 
 
 def why_it_cannot_listen_is_told(program):
-    """By a second line, with what was given: at a terminal, for the journal, or if --log asks for it, which has its forms elsewhere."""
+    """By a second line, with the words that were given: at a terminal, for the journal, or if --log asks for it, which has its forms
+    elsewhere."""
     with socket.create_server((HOST, 0)) as other:
         for listen, cause in (*CAUSES.items(), (f"{HOST}:{other.getsockname()[1]}", "address in use")):
             told = f"{program.name}: cannot listen\n{program.name}: {listen}: {cause}\n"
@@ -223,7 +224,7 @@ def why_it_cannot_listen_is_told(program):
 
 
 def said_at_a_terminal(program, *words):
-    """What a program that ends by itself says on standard error, if that is a terminal."""
+    """The lines on standard error of a program that ends by itself, if that is a terminal."""
     ours, terminal = os.openpty()
     with open(ours, "rb", buffering=0) as screen:
         with open(terminal, "wb") as stderr:
@@ -235,7 +236,7 @@ def said_at_a_terminal(program, *words):
 
 
 def checks_of_words(program, settings, refused, text_of_help):
-    """Each check of what a program says to its words, by its name."""
+    """Each check of the output of a program for its words, by its name."""
     for name, (words, line) in settings.items():
         yield f"--check, {name}", settings_are_printed, (program, words, line)
     for name, (words, why) in refused.items():
@@ -260,7 +261,7 @@ def allow_many_files():
 
 
 def passes(name, check, arguments):
-    """Makes a check, and prints a line where it fails."""
+    """Makes a check, and prints a line if it fails."""
     try:
         check(*arguments)
     except (Wrong, *FAILURES) as error:
@@ -270,6 +271,6 @@ def passes(name, check, arguments):
 
 
 def tally(checks):
-    """Makes checks (names, functions, arguments), and prints the count. Gives the exit status."""
+    """Makes checks (names, functions, arguments), and prints the count. Returns the exit status."""
     allow_many_files()
     return counted(passes(*each) for each in checks)

@@ -1,7 +1,7 @@
-"""What a program does with connections, where a server and a proxy do the same: checks of both.
+"""What a program does with connections, as far as a server and a proxy do the same: checks of both.
 
-`start(words, limits, says)` starts what is tried, with these words of its program, limits of its resources, and standard output that
-takes what it says, or none of it. It has the methods of `Listener` (servers.py).
+`start(words, limits, says)` starts the program that is tried, with these words, limits of its resources, and a standard output that takes its
+lines, or none. It has the methods of `Listener` (servers.py).
 """
 
 import json
@@ -20,11 +20,11 @@ from servers import HOST, Listener, free_port
 
 LARGE = 1_000_000  # bytes of a large value
 
-# Requests that nobody answers and that take a server longer than they take a client: each copies a value of 10,000 bytes and more.
+# Requests without answers that take a server longer than they take a client: each copies a value of 10,000 bytes and more.
 APPENDS = b"set k 0 0 10000 noreply\r\n%s\r\n" % bytes(10_000) + b"append k 0 0 1 noreply\r\nx\r\n" * 2_000
-MOST_SENT = 256 * KILOBYTE * KILOBYTE  # as much a client that sends without end sends at most
+MOST_SENT = 256 * KILOBYTE * KILOBYTE  # the most that a client sends which sends without end
 
-# Dialogues: what a client of a new cache sends, and what it is answered.
+# Dialogues: the bytes that a client of a new cache sends, and the answers.
 DIALOGUES = {
     "set_then_get": (b"set a 0 0 1\r\nx\r\nget a\r\n", b"STORED\r\nVALUE a 0 1\r\nx\r\nEND\r\n"),
     "block_of_line_ends": (
@@ -102,7 +102,7 @@ CLOSED = {"<&-": (0,), ">&-": (1,), "2>&-": (2,), "<&- >&- 2>&-": (0, 1, 2)}
 
 
 def no_client_gets_a_standard_stream(program):
-    """For each of descriptors 0, 1 and 2 that is closed at the start it opens /dev/null, so that no line goes to a client. It still
+    """For each of descriptors 0, 1 and 2 that is closed at the start it opens /dev/null, so that no line is sent to a client. It still
     reports that the output of --check is lost."""
     for closed, numbers in CLOSED.items():
         port = free_port()
@@ -140,7 +140,7 @@ def half_a_request_and_the_end_are_no_answer(start):
 
 
 def a_reset_ends_one_connection(start):
-    """The answers to what was sent before a reset cannot be written, and the others go on."""
+    """The answers to requests before a reset cannot be written, and the other clients continue."""
     with start() as program, program.connected() as other:
         for _ in range(20):
             broken = program.connected()
@@ -181,7 +181,8 @@ def served_in_time(program):
 
 
 def no_descriptors_are_waited_for(start, name, own, why):
-    """Who cannot be accepted, since the system gives no more descriptors, is served once another is gone. It is said why, once."""
+    """A client that cannot be accepted, since the system gives no more descriptors, is served once another has gone. The reason is
+    reported, once."""
     with start(limits=[(resource.RLIMIT_NOFILE, 16)]) as program:
         clients = [program.connected() for _ in range(20)]
         try:
@@ -201,8 +202,7 @@ def no_descriptors_are_waited_for(start, name, own, why):
 
 
 class Sender(threading.Thread):
-    """Sends requests that nobody answers on a connection, as fast as they are taken, until it is told to stop. It gives up at
-    its most."""
+    """Sends requests without answers on a connection, as fast as they are taken, until it is stopped. It gives up at its most."""
 
     def __init__(self, connection):
         super().__init__(daemon=True)
@@ -227,7 +227,7 @@ class Sender(threading.Thread):
 
 
 def who_sends_without_end_holds_nobody_up(start):
-    """While a client sends more than is served, another is answered again and again."""
+    """While a client sends more than is served, another is answered repeatedly."""
     with start() as program, program.connected() as first, program.connected() as second:
         with Sender(first) as sender:
             for _ in range(20):
@@ -239,11 +239,11 @@ def who_sends_without_end_holds_nobody_up(start):
             want(sender.is_alive(), True)
 
 
-# What is said on standard error.
+# Lines on standard error.
 
 
 def lines_said(program, count=1):
-    """The next lines on standard error, as far as they come."""
+    """The next lines on standard error, as far as they arrive."""
     stream, came, deadline = program.process.stderr, b"", time.monotonic() + PATIENCE
     while came.count(b"\n") < count and select.select([stream], [], [], max(0, deadline - time.monotonic()))[0]:
         byte = os.read(stream.fileno(), 1)
@@ -254,13 +254,13 @@ def lines_said(program, count=1):
 
 
 def fields_of(line, name):
-    """The words `<key>=<value>` of a line that a program of this name has said."""
+    """The words `<key>=<value>` of a line of a program of this name."""
     want(line.startswith(f"{name}: "), True)
     return dict(word.split("=") for word in line.removeprefix(f"{name}: ").split())
 
 
 def few_open_files_are_told(start, name, own):
-    """Where fewer may be open than all connections and what the program has open itself may need, and only there."""
+    """If fewer may be open than all connections and the program's own files may need, and only then."""
     told = f"{name}: {1_024 + own} open files: 1024 connections can be served at a time"
     for files, lines in ((1_024 + own, [told]), (1_025 + own, [])):
         with start(limits=[(resource.RLIMIT_NOFILE, files)]) as program, program.connected() as client:
@@ -297,7 +297,7 @@ HTTP, BINARY, TLS = (
     "TLS: set the client to connect without TLS",
 )
 
-# What a stranger sends first, and what is said of it. After it comes a command that nobody meant.
+# The first bytes of a stranger, and the line about it. After them follows a command that must not be executed.
 STRANGERS = {
     **{f"{method.lower()} of a path": (method.encode() + b" /a HTTP/1.1\r\nHost: a\r\n\r\n", HTTP) for method in (
         "GET", "POST", "PUT", "HEAD", "DELETE", "PATCH", "OPTIONS",
@@ -313,7 +313,7 @@ STRANGERS = {
     "tls hello": (b"\x16\x03\x01\x02\x00\x01\x00\x01\xfc\x03\x03\r\n", TLS),
 }  # fmt: skip
 
-# What is text all the same, and its answer.
+# Bytes that are text nevertheless, and their answer.
 TEXTS = {
     "get in capitals": (b"GET a\r\n", b"ERROR\r\n"),
     "a name alone": (b"POST\r\n", b"ERROR\r\n"),
@@ -332,12 +332,12 @@ TEXTS = {
     "a command behind empty lines": (b"\r\n \nget a\r\nx HTTP/1.1\r\n", b"ERROR\r\n" * 2 + b"END\r\nERROR\r\n"),
 }
 
-# Empty lines, behind which a stranger may begin: each is answered by itself.
+# Empty lines, which a stranger's bytes may follow: each is answered by itself.
 EMPTY_LINES = [b"\r\n", b"\n", b"  \r\n"]
 
 
 def answered_to(client, pieces):
-    """What comes to the end for these pieces, each sent by itself, as far as they are taken."""
+    """The answer to these pieces up to its end, each sent by itself, as far as they are taken."""
     came = b""
     try:
         for piece in pieces:
@@ -351,7 +351,7 @@ def answered_to(client, pieces):
 
 
 def a_stranger_is_turned_away(start, name, sent, told):
-    """Whole and in bytes: nothing is answered or done, it is said with its address, and others are served."""
+    """Whole and in bytes: nothing is answered or done, its address is reported, and others are served."""
     sent += b"set pwn 0 0 4\r\nhack\r\n"
     for pieces in ([sent], [sent[at : at + 1] for at in range(len(sent))]):
         with start("--accept 2") as program, program.connected() as other:
@@ -366,7 +366,7 @@ def a_stranger_is_turned_away(start, name, sent, told):
 
 
 def a_stranger_behind_empty_lines_is_turned_away(start, name, sent):
-    """With these lines in one piece nothing is answered. Where they come before it, each is answered, and no line of the stranger."""
+    """With these lines in one piece nothing is answered. If they arrive before it, each is answered, and no line of the stranger."""
     sent += b"set pwn 0 0 4\r\nhack\r\n"
     for apart in (False, True):
         with start("--accept 2") as program, program.connected() as other:
@@ -450,8 +450,8 @@ def suppressed_of(line, form):
 
 
 def suppressed_lines_are_counted(start, name):
-    """Of many strangers in a short time few are said, the first as ever, and each line says how many were suppressed before it: with those of
-    a later second each was said, or counted once."""
+    """Few of many strangers in a short time are reported, the first as ever, and each line says how many were suppressed before it: with
+    those of a later second each was reported, or counted once."""
     for form in FORMS:
         with start(form) as program:
             lines = []
@@ -468,11 +468,11 @@ def suppressed_lines_are_counted(start, name):
             want([line for _, line in lines if not (line.startswith(f"{name}: ") and line.endswith(f" refused: {BINARY}"))], [])
 
 
-# Clients that do nothing.
+# Clients without requests.
 
 
 def idle_clients_are_closed(start):
-    """One that has sent half a request as well; not one that asks now and then, and not one that its answers wait for."""
+    """One that has sent half a request as well; not one that sends a request now and then, and not one whose answers are pending."""
     with start("--idle 1") as program:
         idle, half, slow, busy = clients = [program.connected() for _ in range(4)]
         try:
@@ -495,8 +495,8 @@ def idle_clients_are_closed(start):
 
 
 def checks_of_connections(start, program, own, more_dialogues={}, full="too many open files"):
-    """Each of them by its name, with all dialogues, of a program of a name that has so many files open itself, and says this where 16 files
-    may be open and it accepts no more clients."""
+    """Each of them by its name, with all dialogues, of a program of a name that has this many files open itself, and reports this if 16
+    files may be open and it accepts no more clients."""
     for name, (sent, answers) in {**DIALOGUES, **more_dialogues}.items():
         yield f"{name}, whole", a_dialogue_is_answered, (start, sent, answers)
         yield f"{name}, in bytes", a_dialogue_comes_in_bytes, (start, sent, answers)

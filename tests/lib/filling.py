@@ -1,7 +1,7 @@
-"""Stores items of chosen sizes in pipelines, and counts what memory was refused to."""
+"""Stores items of chosen sizes in pipelines, and counts the stores that were refused memory."""
 
 KEY_SIZE = 20
-COST_OF_AN_ITEM = 64  # what an item costs of a budget beside its key and its value
+COST_OF_AN_ITEM = 64  # the cost of an item in a budget beside its key and its value
 MOST_AT_ONCE = 1_000  # stores of a pipeline
 BYTES_AT_ONCE = 1_000_000
 LARGEST = 1_000_000  # bytes of a value: memcached takes no more than a MiB with the item's head
@@ -10,7 +10,7 @@ NO_MEMORY = b"SERVER_ERROR out of memory storing object\r\n"
 
 
 def cost_of(size):
-    """What an item of a value of so many bytes costs of a budget."""
+    """The cost of an item with a value of this many bytes in a budget."""
     return KEY_SIZE + size + COST_OF_AN_ITEM
 
 
@@ -28,7 +28,8 @@ def at_once(size):
 
 
 def store(connection, entries):
-    """Stores values under keys (numbers of keys, and sizes), all in one pipeline. Gives how many the server had no memory for."""
+    """Stores values under keys (numbers of keys, and sizes), all in one pipeline. Returns how many the server had no memory
+    for."""
     stores = [store_of(*entry) for entry in entries]
     connection.sendall(b"".join(stores))
     answers, ends = bytearray(), 0
@@ -45,6 +46,6 @@ def store(connection, entries):
 
 
 def fill(connection, items, size):
-    """Stores so many items, under keys from 0 on."""
+    """Stores this many items, under keys from 0 on."""
     step = at_once(size)
     return sum(store(connection, [(key, size) for key in range(first, min(first + step, items))]) for first in range(0, items, step))

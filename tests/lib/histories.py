@@ -1,8 +1,8 @@
 """Histories on which the search of registers.py is tried: `checks_of_histories` gives each check's name, whether it passed, and why not.
 
-- Faulty histories of a register, as the literature tells of them (Lamport 1986, Herlihy and Wing 1990), written from what they show and not
-  copied from a figure, and right ones beside them; then those of a register that may forget, of numbers and of restarts. Lamport's are of his
-  Part II (On interprocess communication, Part II: Algorithms), which tells safe registers from regular ones, and these from atomic ones.
+- Faulty histories of a register, from the literature (Lamport 1986, Herlihy and Wing 1990), written from what they show and not copied from a
+  figure, and right ones beside them; then those of a register that may forget, of numbers and of restarts. Lamport's are of his Part II (On
+  interprocess communication, Part II: Algorithms), which distinguishes safe registers from regular ones, and these from atomic ones.
 - Random histories of a few calls, in half of which answers are changed: the search says the same as the definition tried in each order.
 - A history of 200,000 calls on one key by eight clients, with a fault at its end.
 """
@@ -115,7 +115,7 @@ def right_history(dice, count, counts=False, reach=25, loses=0.2):
 
 
 def changed(dice, calls):
-    """The calls, with an answer that is another, or in the place of another's."""
+    """The calls, with an answer that is changed, or replaced by another's."""
     at = dice.randrange(len(calls))
     call, other = calls[at], dice.choice(calls)
     if call.answer is None or call.answer == RESTARTED:
@@ -169,7 +169,7 @@ def long_history(dice):
 
 
 def distinct(calls):
-    """The calls, at moments of which no two are the same."""
+    """The calls, at moments no two of which are equal."""
     taken = sorted((moment, at) for at, call in enumerate(calls) for moment in (call.sent, call.came) if moment != NEVER)
     moved = {}
     for place, (_, at) in enumerate(taken):

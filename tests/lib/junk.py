@@ -1,11 +1,11 @@
-"""Batches of mutated requests, for fuzz.py: each is told by a seed, a connection and a number, and is the same every time. looks.py makes
-others, with keys, exptimes and flags of its own.
+"""Batches of mutated requests, for fuzz.py: each is determined by a seed, a connection and a number, and is equal every time. looks.py
+makes others, with keys, exptimes and flags of its own.
 
-A request is one of a command of the protocol, as a client would send it, and then, more often than not, changed: bits are
-flipped, bytes cut out, put in or doubled, lengths made wrong or huge, lines made longer than the server reads.
+A request is one of a command of the protocol, as a client would send it, and then, more often than not, changed: bits are flipped, bytes
+removed, added or doubled, lengths made wrong or huge, lines made longer than the server reads.
 
-All keys and values of a connection carry its **tag** (`c017-` for connection 17), and no other connection ever sends those
-five bytes: wherever a mutation made another's tag, it is made the connection's own again.
+All keys and values of a connection have its **tag** (`c017-` for connection 17), and no other connection ever sends those five bytes: if
+a mutation made another's tag, it is made the connection's own again.
 """
 
 import base64
@@ -37,7 +37,7 @@ class Maker:
     """Makes requests of a connection by the dice."""
 
     exptimes, letters = EXPTIMES, LETTERS
-    sizes = [1, 1, 1, 2, 24]  # how many keys a retrieval has
+    sizes = [1, 1, 1, 2, 24]  # the number of keys of a retrieval
 
     def __init__(self, dice, tag):
         self.dice, self.tag = dice, tag.decode()
@@ -156,7 +156,7 @@ class Mutator:
         return request.replace(b"\r\n", end, self.maker.one_of([1, 2]))
 
     def change_length(self, request):
-        """The last number of the line, where there is one, becomes a little more or less."""
+        """The last number of the line, if there is one, becomes a little more or less."""
         line, end, rest = request.partition(b"\r\n")
         return re.sub(rb"\d{1,9}(?=[^\d]*$)", self.another_number, line) + end + rest
 
@@ -207,7 +207,7 @@ def dice_of(seed, number, batch):
 
 
 def batch_of(dice, number, count, may_flush):
-    """So many requests of a connection, in a row."""
+    """This many requests of a connection, in a row."""
     tag = tag_of(number)
     maker = Maker(dice, tag)
     mutator = Mutator(maker)

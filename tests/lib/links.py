@@ -1,5 +1,5 @@
-"""What a proxy does with its links where a network or a server fails, where descriptors are few, and where servers have names of
-their own. `checks_of_links` gives each check by its name, those of losses.py too; proxyd.py makes them. `Pool.programs` are the programs that are tried.
+"""What a proxy does with its links if a network or a server fails, if descriptors are few, and if servers have names of their own.
+`checks_of_links` has each check by its name, those of losses.py too; proxyd.py makes them. `Pool.programs` are the programs that are tried.
 """
 
 import contextlib
@@ -23,7 +23,7 @@ from servers import HOST, Proxy, Server, connected, free_port
 
 LATE = 0.4  # seconds of a --timeout that a check waits for
 USUAL_TIMEOUT = 1  # seconds of the --timeout that a proxy has without the word
-UNASKED = 10  # seconds after which a server that has lost commands, and that nobody asks, is up
+UNASKED = 10  # seconds after which a server that has lost commands, and that gets no requests, is up
 KEEPALIVE = {  # a second to the first question, between two, their number, and milliseconds in all
     "a link": (5, 1, 5, 10_000),
     "a client": (30, 10, 3, 60_000),
@@ -35,11 +35,11 @@ def proxy_in_front(words, addresses):
     return Proxy(Pool.programs[0], addresses, words, stderr=subprocess.PIPE)
 
 
-# Links that are given up.
+# Links that the proxy gives up on.
 
 
 def a_link_that_is_given_up_is_reset():
-    """By a late reply, by a strange one and by an end in the middle of a reply."""
+    """By a late reply, by a protocol violation and by an end in the middle of a reply."""
     with Played(3, ["--timeout", str(int(LATE * 1000))]) as pool, pool.connected() as client:
         late, strange, ends = pool.links
         keys = [pool.ring.key(place) for place in range(3)]
@@ -56,8 +56,8 @@ def a_link_that_is_given_up_is_reset():
 
 
 def what_is_undelivered_dies_with_its_link():
-    """A server reads nothing, and its link is lost. What it finds in the old connection later ends before the last store, though the
-    proxy had sent all of them; what is stored through the new one comes whole."""
+    """A server reads nothing, and its link is lost. The bytes that it reads on the old connection later end before the last store, though the
+    proxy had sent all of them; stores through the new one arrive whole."""
     with Played(1, ["--timeout", str(int(LATE * 1000))]) as pool, pool.connected() as client:
         put, told, _, _ = stored(b"a", b"old" * 300_000)
         client.sendall(put * 5)
@@ -77,8 +77,8 @@ def what_is_undelivered_dies_with_its_link():
 
 
 def a_server_that_sends_is_not_late():
-    """A reply takes several times as long as a server may be silent, and its bytes come one by one. The next reply stops in the middle: its
-    link is lost once nothing has come for that long."""
+    """A reply takes several times as long as a server may be silent, and its bytes arrive one by one. The next reply stops in the middle: its link
+    is lost once nothing has arrived for that long."""
     with Played(1, ["--timeout", str(int(LATE * 1000))]) as pool, pool.connected() as client:
         [link] = pool.links
         _, _, get, shown = stored(b"a", b"value")
@@ -96,7 +96,7 @@ def a_server_that_sends_is_not_late():
 
 
 def a_hung_server_is_given_up_without_words():
-    """In a second: so long a client of another server's keys is held up at most."""
+    """In a second: a client of another server's keys is delayed at most that long."""
     with Pool() as pool, pool.connected() as client, pool.connected() as other:
         hung, others = (b"get %s\r\n" % pool.ring.key(place) for place in (0, 1))
         is_served(client)
@@ -124,7 +124,7 @@ def shown_up(port, server):
 
 
 def a_hung_server_is_down_until_it_replies():
-    """Its system accepts each connection. It is lost once, and back with its first reply."""
+    """Its system accepts each connection. It is lost once, and up again with its first reply."""
     port = free_port()
     with Pool(["--timeout", str(int(LATE * 1000)), "--admin", f"{HOST}:{port}"]) as pool, pool.connected() as client:
         hung, get = pool.servers[0], b"get %s\r\n" % pool.ring.key(0)
@@ -146,7 +146,7 @@ def a_hung_server_is_down_until_it_replies():
 
 
 def a_server_that_nobody_asks_is_up_once_it_is_connected():
-    """And it is not said that it is back: it has not replied."""
+    """The proxy does not report that it is back: it has not replied."""
     port = free_port()
     with Pool(["--admin", f"{HOST}:{port}"]) as pool, pool.connected() as client:
         asked(client, b"get %s\r\n" % pool.ring.key(0), b"END\r\n")
@@ -163,8 +163,8 @@ def a_server_that_nobody_asks_is_up_once_it_is_connected():
 
 
 def a_server_that_lost_a_command_is_up_once_nobody_asks():
-    """Two servers lose a command. One was killed and is started again, and nobody asks it: it is up ten seconds after it is connected. The other is
-    stopped, and is asked every two seconds: it stays down, though its system accepts each connection."""
+    """Two servers lose a command. One was killed and is started again, and gets no requests: it is up ten seconds after it is connected. The other
+    is stopped, and gets one every two seconds: it stays down, though its system accepts each connection."""
     port = free_port()
     with Pool(["--timeout", str(int(LATE * 1000)), "--admin", f"{HOST}:{port}"]) as pool, pool.connected() as client:
         hung, killed = pool.servers
@@ -196,7 +196,7 @@ def a_server_that_lost_a_command_is_up_once_nobody_asks():
 
 
 def a_server_that_was_away_is_used_soon():
-    """It was away for a moment: of the tries at it the second comes after 0.1 to 0.2 seconds, and the third after 0.2 to 0.4 more."""
+    """It was away for a moment: the second try at it follows after 0.1 to 0.2 seconds, and the third after 0.2 to 0.4 more."""
     with Played() as pool, pool.connected() as client:
         [server] = pool.servers
         for _ in range(3):
@@ -223,8 +223,8 @@ class Closing(Pool):
 
 
 def a_link_that_nobody_needs_is_ended_and_nothing_is_lost():
-    """Of two links one is asked all along, and stays. The other ends once nobody has needed it for as long as --idle says. The proxy connects
-    again at once, so the next get is answered rightly. No command is lost."""
+    """One of two links gets requests all the time, and stays. The other ends once nobody has needed it for as long as --idle says. The proxy
+    connects again at once, so the next get is answered rightly. No command is lost."""
     port = free_port()
     with Closing(["--admin", f"{HOST}:{port}"]) as pool, pool.connected() as client:
         quiet, busy = (server.address for server in pool.servers)
@@ -243,7 +243,7 @@ def a_link_that_nobody_needs_is_ended_and_nothing_is_lost():
         is_said(pool, f"{quiet} back")
 
 
-# Peers that are gone without a word.
+# Peers that vanish silently.
 
 
 def the_system_looks_for_peers():
@@ -278,7 +278,7 @@ def a_server_that_takes_nothing_is_gone():
 
 
 def descriptors_of_links_are_reserved():
-    """Clients that wait for a place do not take that of a lost link: its server is used again while they wait. It is told once."""
+    """Clients that wait for a place do not take the descriptor of a lost link: its server is used again while they wait. It is reported once."""
     most = 5
     with Pool(limits=[(resource.RLIMIT_NOFILE, OWN_FILES + most)]) as pool, contextlib.ExitStack() as stack:
         files = f"{OWN_FILES + most} open files"
@@ -292,7 +292,7 @@ def descriptors_of_links_are_reserved():
         asked(clients[0], b"get %s\r\n" % pool.ring.key(0), b"END\r\n")
         gone = pool.servers[0].address
         for _ in range(2):
-            time.sleep(1.1)  # At most one line in a second is said of it.
+            time.sleep(1.1)  # At most one line in a second is written of it.
             pool.servers[0].stop()
             is_lost_and_refused(pool, gone)
             pool.restart(0)
@@ -312,7 +312,7 @@ def a_link_without_a_descriptor_is_told_so():
         want(lines_said(pool, 2), [told, f"mc_proxyd: {pool.servers[1].address} refused: too many open files"])
 
 
-# Names that are looked up.
+# Names that are resolved.
 
 
 def a_silent_name_server_holds_up_nobody():
@@ -323,7 +323,7 @@ def a_silent_name_server_holds_up_nobody():
 
 
 def a_server_is_replaced_at_another_address():
-    """Keys are spread by names: a proxy that is started with another address behind one moves no key. The name is in all lines."""
+    """Keys are spread by names: a proxy that is started with another address for one moves no key. The name is in all lines."""
     names = ["a:1", "cache-b.example:2"]
     ring = Ring(names)
     keys = [ring.key(place) for place in (0, 1)]

@@ -1,5 +1,5 @@
-"""What a proxy does with a file that lists its servers (--servers), at its start and while it runs. `checks_of_lists` gives each check by its
-name; proxyd.py makes them. `Pool.programs` are the programs that are tried.
+"""What a proxy does with a file that lists its servers (--servers), at its start and while it runs. `checks_of_lists` has each check by
+its name; proxyd.py makes them. `Pool.programs` are the programs that are tried.
 """
 
 import contextlib
@@ -16,7 +16,7 @@ from rings import Ring
 from servers import HOST, Proxy, Server
 
 SECONDS_TO_TAKE = 1.25  # a look each second, and another after a quarter
-LOOKS = 2.6  # seconds in which a file is looked at at least twice
+LOOKS = 2.6  # seconds in which the proxy looks at a file at least twice
 MOST_BYTES = 65536  # of a file
 
 GOOD = {
@@ -44,7 +44,7 @@ BAD = {
 
 
 class Listed:
-    """Servers, a file that lists them, and a proxy that is given it."""
+    """Servers, a file that lists them, and a proxy with that file."""
 
     def __init__(self, count=2, words=(), **limits):
         self.stack = contextlib.ExitStack()
@@ -67,7 +67,7 @@ class Listed:
         return "".join(f"{name}\n" for name in self.names)
 
     def write(self, text):
-        """In one step, as an editor does that renames."""
+        """In one step, as an editor that renames does."""
         new = self.file.with_name("new")
         new.write_text(text)
         new.rename(self.file)
@@ -93,7 +93,7 @@ class Listed:
 
 
 def keys_are_at_owners(listed, client, servers, names):
-    """By the ring of these names: each server has its own key, seen without the proxy."""
+    """By the ring of these names: each server has its own key, checked without the proxy."""
     ring = Ring(names)
     for place, server in enumerate(servers):
         put, told, get, shown = stored(ring.key(place), b"of %d" % place)
@@ -103,7 +103,7 @@ def keys_are_at_owners(listed, client, servers, names):
 
 
 def answered(client, text, answer):
-    """An answer, or that of a link which is not there yet."""
+    """An answer, or that of a link which is not up yet."""
     deadline = time.monotonic() + PATIENCE
     while True:
         client.sendall(text)
@@ -160,7 +160,8 @@ def a_list_and_words_are_refused():
 
 
 def a_line_that_is_appended_joins():
-    """Within a second or so, while a client asks all along: no answer is wrong, and then each key is at its owner in the wider ring."""
+    """Within a second or so, while a client sends requests all the time: no answer is wrong, and then each key is at its owner in the
+    wider ring."""
     with Listed() as listed, listed.proxy.connected() as client:
         third = listed.new_server()
         wider = Ring([*listed.names, third.address])
@@ -201,7 +202,7 @@ def two_lines_join_at_a_time():
 
 
 def an_address_is_taken_over():
-    """No key moves: the server of that name is another. That the old one is lost is not said beside it."""
+    """No key moves: the server of that name is replaced. That the old one is lost is not reported as well."""
     with Listed() as listed, listed.proxy.connected() as client:
         is_served(client)
         one, two = listed.names
@@ -217,7 +218,7 @@ def an_address_is_taken_over():
 
 
 def an_address_that_refuses_likewise_is_said():
-    """Nobody is at the old address, nor at the new one."""
+    """No server is at the old address, nor at the new one."""
     with Listed() as listed, listed.proxy.connected() as client:
         listed.append(f"c:1={HOST}:1\n")
         is_said(listed.proxy, "c:1 joined", "c:1 refused: connection refused")
@@ -230,7 +231,7 @@ def an_address_that_refuses_likewise_is_said():
 
 
 def an_address_that_was_wrong_is_mended():
-    """A server joined at an address where nobody is."""
+    """A server joined at an address without a server."""
     with Listed() as listed, listed.proxy.connected() as client:
         third = listed.new_server()
         listed.append(f"c:1={HOST}:1\n")
@@ -244,7 +245,7 @@ def an_address_that_was_wrong_is_mended():
         listed.is_said("c:1 back")
 
 
-CHANGES_THAT_ARE_REFUSED = {  # the place of the first server that is not there, the list, and what it has at that place
+CHANGES_THAT_ARE_REFUSED = {  # the place of the first server that is missing, the list, and its entry at that place
     "one_is_taken_out": lambda names: (1, f"{names[0]}\n{names[2]}\n", names[2]),
     "the_last_is_taken_out": lambda names: (2, f"{names[0]}\n{names[1]}\n# ", None),
     "one_has_another_name": lambda names: (0, f"a:1={names[0]}\n{names[1]}\n{names[2]}\n", "a:1"),
@@ -254,8 +255,8 @@ CHANGES_THAT_ARE_REFUSED = {  # the place of the first server that is not there,
 
 
 def servers_stay():
-    """A list that does not have them at their places changes nothing: what it appends does not join. It is said once for each change, and
-    once that the list is taken again."""
+    """A list that does not have them at their places changes nothing: the servers that it appends do not join. It is reported once for
+    each change, and once that the list is taken again."""
     with Listed(3) as listed, listed.proxy.connected() as client:
         for text_of in CHANGES_THAT_ARE_REFUSED.values():
             place, text, other = text_of(listed.names)
@@ -277,7 +278,7 @@ def a_mistake_changes_nothing():
             listed.write(listed.text() + f"{third.address}\n" + line)
             listed.is_not_taken(mistake)
         time.sleep(LOOKS)
-        nothing_is_said(listed.proxy)  # It was said once, and is not at each look.
+        nothing_is_said(listed.proxy)  # It was reported once, and is not at each look.
         keys_are_at_owners(listed, client, listed.servers, listed.names)
         listed.write(listed.text() + f"{third.address}\n")
         listed.is_said(f"{third.address} joined")
@@ -286,7 +287,7 @@ def a_mistake_changes_nothing():
 
 
 def half_a_line_is_not_taken():
-    """Nor is what stands before it."""
+    """Nor are the lines before it."""
     with Listed() as listed, listed.proxy.connected() as client:
         third = listed.new_server()
         listed.append(third.address[:-1])
@@ -316,7 +317,7 @@ def a_file_that_is_away_changes_nothing():
 
 
 def what_cannot_be_read_changes_nothing():
-    """A pipe that nobody writes to holds up nobody, and of 100 MB no more is read than a list may have."""
+    """A pipe without a writer delays nobody, and of 100 MB no more is read than a list may have."""
     with Listed() as listed, listed.proxy.connected() as client:
         text = listed.text()
         listed.file.unlink()
@@ -341,7 +342,7 @@ def what_cannot_be_read_changes_nothing():
 
 
 def carriage_returns_and_order_of_writes_are_ignored():
-    """The file of an editor of another system, and one that comes in pieces."""
+    """The file of an editor of another system, and one that arrives in pieces."""
     with Listed() as listed, listed.proxy.connected() as client:
         third = listed.new_server()
         text = (listed.text() + f"{third.address}\n").replace("\n", "\r\n")
@@ -356,7 +357,7 @@ def carriage_returns_and_order_of_writes_are_ignored():
 
 
 def nothing_is_taken_of_a_file_that_is_being_written():
-    """It is emptied, and written again at once: nothing is said."""
+    """It is emptied, and written again at once: nothing is reported."""
     with Listed() as listed:
         for _ in range(20):
             listed.file.write_text("")
@@ -394,7 +395,7 @@ def descriptors_of_servers_that_join_are_reserved():
 
 
 def a_look_without_a_descriptor_is_said():
-    """What is new is taken once there is one again."""
+    """New entries are taken once there is a descriptor again."""
     with Listed() as listed, listed.proxy.connected() as client:
         is_served(client)
         third, pid = listed.new_server(), listed.proxy.process.pid

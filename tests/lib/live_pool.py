@@ -1,4 +1,5 @@
-"""A proxy in front of servers: of those that are started, or of some that a check plays; and what checks of both ask and await."""
+"""A proxy in front of servers: of those that are started, or of some that a check plays; and the requests and answers that checks of both
+share."""
 
 import contextlib
 import os
@@ -14,7 +15,7 @@ from servers import HOST, Proxy, Server, free_port
 
 LOST = b"SERVER_ERROR link lost\r\n"
 SECONDS_TO_RETURN = 5  # a lost link is tried again at once, after 0.1 to 0.2 seconds, and then each time after twice as long
-QUIET = 0.1  # seconds in which nothing comes where nothing is to come
+QUIET = 0.1  # seconds in which nothing arrives if nothing should
 
 
 class Pool:
@@ -53,7 +54,7 @@ class Pool:
         self.servers[place] = self.stack.enter_context(self.new_server(server.port))
 
     def holds(self, place, key):
-        """What a server holds under a key, asked without the proxy."""
+        """The value that a server stores under a key, asked without the proxy."""
         with self.servers[place].connected() as direct:
             direct.sendall(b"get %s\r\nquit\r\n" % key)
             return received_to_the_end(direct)
@@ -61,7 +62,7 @@ class Pool:
 
 class Played(Pool):
     """Servers that the check plays, and a proxy in front of them that has connected to each: `links` are their connections. It waits for
-    replies for ever, where its words do not say otherwise: a check may take its time."""
+    replies for ever, unless its words say otherwise: a check may take its time."""
 
     class Server:
         def __init__(self):
@@ -94,8 +95,8 @@ class Played(Pool):
             self.stack = self.stack.pop_all()
 
     def lost(self, place, client, was_reset=False):
-        """Sees that a link was reset, if that was not seen yet, and takes the next one. A client that is served says that the proxy has seen
-        it too."""
+        """Checks that a link was reset, if that was not checked yet, and takes the next one. A client that is served shows that the proxy
+        has noticed it too."""
         if not was_reset:
             want(bytes_before_a_reset(self.links[place]), 0)
         self.links[place] = self.stack.enter_context(self.servers[place].accept())
@@ -103,7 +104,7 @@ class Played(Pool):
 
 
 def bytes_before_a_reset(link):
-    """How many bytes come before a connection is reset. One that ends otherwise is wrong."""
+    """How many bytes arrive before a connection is reset. One that ends otherwise is wrong."""
     count = 0
     try:
         while piece := link.recv(1 << 20):
@@ -118,7 +119,7 @@ def nothing_comes(connection):
 
 
 def all_that_comes(connection):
-    """What has come already."""
+    """All bytes that have arrived already."""
     came = bytearray()
     while select.select([connection], [], [], QUIET / 10)[0]:
         came += connection.recv(1 << 20)
@@ -126,7 +127,7 @@ def all_that_comes(connection):
 
 
 def answered_in_time(client, text, answer, seconds=SECONDS_TO_RETURN):
-    """Sends a text until another line comes than that of a lost link, and sees that it is this one."""
+    """Sends a text until a line arrives other than that of a lost link, and checks that it is this one."""
     deadline = time.monotonic() + seconds
     while True:
         client.sendall(text)
@@ -151,7 +152,7 @@ def data_segments(connection):
 
 
 def is_said(proxy, *lines):
-    """Sees that these lines come next on the proxy's standard error."""
+    """Checks that these lines are next on the proxy's standard error."""
     stream, came, deadline = proxy.process.stderr, b"", time.monotonic() + PATIENCE
     wanted = b"".join(b"mc_proxyd: %s\n" % line.encode() for line in lines)
     while len(came) < len(wanted) and select.select([stream], [], [], max(0, deadline - time.monotonic()))[0]:
@@ -163,8 +164,8 @@ def is_said(proxy, *lines):
 
 
 def is_lost_and_refused(proxy, server):
-    """Sees that a server is said to be lost, and then to refuse. The server has answered before: a connection that its process has not taken
-    yet is reset, and not ended. So is the next one, which its system may have taken while the process ended."""
+    """Checks that a server is reported as lost, and then as refusing. The server has answered before: a connection that its process has
+    not taken yet is reset, and not ended. So is the next one, which its system may have taken while the process ended."""
     line, said = b"", []
     while f"mc_proxyd: {server} refused: connection refused\n" not in said:
         stream = proxy.process.stderr

@@ -37,7 +37,7 @@ FILES = {  # a look-up is sent twice, and fails after ten seconds
 
 
 def in_a_network_of_its_own(proxy, server):
-    """Makes these checks where no name server of the machine is asked: as root of a user namespace, in namespaces of its own."""
+    """Makes these checks without any name server of the machine: as root of a user namespace, in namespaces of its own."""
     words = ["unshare", "--map-root-user", "--mount", "--net", sys.executable, __file__, proxy, server]
     environment = {name: value for name, value in os.environ.items() if name not in ("LOCALDOMAIN", "RES_OPTIONS")}
     ended = subprocess.run(words, env=environment, stdout=subprocess.PIPE, stderr=subprocess.STDOUT)
@@ -46,8 +46,8 @@ def in_a_network_of_its_own(proxy, server):
 
 
 class NameServer:
-    """Answers each look-up of a name in `known` by 127.0.0.1, as many seconds late as is said of it there, and one of a name in `unknown`
-    by NXDOMAIN. To all others it is silent, until the name is known."""
+    """Answers each look-up of a name in `known` by 127.0.0.1, as many seconds late as `known` says, and one of a name in `unknown` by
+    NXDOMAIN. To all others it is silent, until the name is known."""
 
     def __init__(self):
         self.known, self.unknown, self.unanswered = {}, set(), []
@@ -65,7 +65,7 @@ class NameServer:
             self.answer(".".join(name), query, query[12 : end + 5], client)
 
     def know(self, name, seconds=0):
-        """Answers a name from now on, so late, and what was asked of it before."""
+        """Answers a name from now on, this late, and the look-ups of it before."""
         self.known[name] = seconds
         unanswered, self.unanswered = self.unanswered, []
         for each in unanswered:
@@ -91,7 +91,7 @@ def in_front(words, places, limits=()):
 
 @contextlib.contextmanager
 def resolved_by(text):
-    """The programs that are started meanwhile look names up so."""
+    """The programs that are started meanwhile resolve names in this way."""
     file = pathlib.Path("/etc/resolv.conf")
     file.write_text(text)
     try:
@@ -109,8 +109,8 @@ def asked_promptly(client, key, seconds, answer=b"END\r\n"):
 
 
 def a_silent_name_holds_up_nobody():
-    """The first client waits as long as a try takes. From then on all are served, also while the name is looked up again; the server joins
-    in once its name is answered."""
+    """The first client waits as long as a try takes. From then on all are served, also while the name is looked up again; the server
+    joins once its name is answered."""
     with Server(SERVER) as living, Server(SERVER) as other:
         place = f"late.example:{other.port}"
         ring = Ring([living.address, place])
@@ -132,7 +132,7 @@ def a_silent_name_holds_up_nobody():
 
 
 def a_look_up_that_fails_late_is_nothing_new():
-    """It fails after ten seconds, and another one begins: a silent name server is said once."""
+    """It fails after ten seconds, and another one begins: a silent name server is reported once."""
     place = "quiet.example:1"
     with in_front([], [place]) as proxy, proxy.connected() as client:
         asked(client, b"get a\r\n", LOST)
@@ -235,7 +235,7 @@ def the_end_does_not_wait_for_a_look_up():
 
 
 def a_slow_answer_is_in_time():
-    """One that comes within the three seconds of a try: nothing is said."""
+    """One that arrives within the three seconds of a try: nothing is reported."""
     NAMES.know("slow.example", 2)
     with Server(SERVER) as server:
         place = f"slow.example:{server.port}"
@@ -245,7 +245,7 @@ def a_slow_answer_is_in_time():
 
 
 def an_answer_after_the_try_is_taken():
-    """The next try has it, and asks no more."""
+    """The next try uses it, and sends no more look-ups."""
     NAMES.know("slower.example", 4)
     with Server(SERVER) as server:
         place = f"slower.example:{server.port}"
@@ -285,8 +285,8 @@ def as_many_names_as_servers_hang():
 
 
 def a_name_that_joins_holds_up_nobody():
-    """Neither a client that is there nor one that comes, if a line of a file has a name that hangs. Its address is taken over while the
-    look-up of the name is under way."""
+    """Neither a client that is connected nor a new one, if a line of a file has a name that hangs. Its address is taken over while the
+    look-up of the name is in flight."""
     with Server(SERVER) as living, Server(SERVER) as other, tempfile.NamedTemporaryFile("w") as file:
         name, ring = "joins:1", Ring([living.address, "joins:1"])
         here, there = (ring.key(place) for place in (0, 1))

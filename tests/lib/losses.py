@@ -1,5 +1,5 @@
-"""What a proxy answers of a server that is lost, by its choice for lost commands (`--lost`). `checks_of_losses` gives each check by its
-name; links.py hands them on. `Pool.programs` are the programs that are tried.
+"""What a proxy answers for a server that is lost, by its choice for lost commands (`--lost`). `checks_of_losses` has each check by its name;
+links.py passes them on. `Pool.programs` are the programs that are tried.
 """
 
 import contextlib
@@ -89,7 +89,7 @@ def missed(pool):
 
 
 def missed_after(pool, before, ask=lambda: None):
-    """The first report's number that is another than before, while something is asked before each look."""
+    """The first report's number that differs from the one before, while a request is sent before each look."""
     deadline = time.monotonic() + PATIENCE
     while time.monotonic() < deadline:
         ask()

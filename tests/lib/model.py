@@ -1,8 +1,8 @@
 #!/usr/bin/env python3
-"""A plain model of the server: reads a script on standard input and prints what mc_sim should print.
+"""A plain model of the server: reads a script on standard input and prints the output that mc_sim should have.
 
-It is written from the protocol's rules by themselves, with none of the repository's definitions, so that both can be
-compared over many random scripts (tests/gate/random.sh). It is slow and simple, and trusts its input to be a good script.
+It is written from the protocol's rules alone, with none of the repository's definitions, so that both can be compared
+over many random scripts (tests/gate/random.sh). It is slow and simple, and trusts its input to be a good script.
 """
 
 import base64
@@ -100,7 +100,7 @@ def count_mode(word):
     return {b"I": "incr", b"+": "incr", b"D": "decr", b"-": "decr"}.get(word.upper())
 
 
-# For each meta command its flags of one letter, and its flags with a token, each with what reads the token.
+# For each meta command its flags of one letter, and its flags with a token, each with the function that reads the token.
 LETTERS = {"mg": b"bcfkqstv", "ms": b"bckqs", "md": b"bkqI", "ma": b"bckqtv"}
 TOKENS = {
     "mg": {b"O": opaque, b"T": i64, b"N": i64, b"R": u64},
@@ -109,7 +109,7 @@ TOKENS = {
     "ma": {b"O": opaque, b"T": i64, b"C": u64, b"M": count_mode, b"N": i64, b"J": u64, b"D": u64},
 }
 
-# What flag q hides.
+# The codes that flag q hides.
 HIDDEN = {"mg": ("EN",), "ms": ("HD",), "md": ("HD", "NF"), "ma": ("HD", "NF")}
 
 
@@ -301,7 +301,7 @@ class Server:
 
     @staticmethod
     def meta_reply(key, asked, code, item, marks, moment):
-        """EN is alone; else O and k are shown with every code, and the rest where there is an item to show."""
+        """EN is alone; otherwise O and k are shown with every code, and the rest if there is an item to show."""
         if code == "EN":
             return b"EN\r\n"
         line = b"VA %d" % len(item.value) if code == "VA" else code.encode()
@@ -516,7 +516,7 @@ def is_of_pool(script):
 
 
 def printed(lines, server):
-    """What is printed for a script, played to a server as its first line says."""
+    """The output for a script, played to a server as its first line says."""
     for line in lines[1:]:
         name, number, rest = line.split(" ", 2)
         connection = server.connections[int(number)]
@@ -530,7 +530,7 @@ def printed(lines, server):
 
 
 def settings(lines):
-    """The connections, the budget and the item limit that a script's first line says."""
+    """The connections, the budget and the item limit in a script's first line."""
     return [int(word) for word in lines[0].split(" ")[1:]]
 
 

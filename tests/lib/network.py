@@ -51,7 +51,7 @@ def called(name, *words):
 
 
 def in_a_thread(function, *words):
-    """What a function gives in a thread of its own: a thread that enters a namespace takes none of the others with it."""
+    """The result of a function in a thread of its own: a thread that enters a namespace takes none of the others with it."""
     given = []
 
     def run():
@@ -70,7 +70,7 @@ def in_a_thread(function, *words):
 
 
 def unshare():
-    """Leaves the machine's network; where that needs it, as root of a user namespace. To be called before there are threads."""
+    """Leaves the machine's network; if that needs it, as root of a user namespace. It must be called before there are threads."""
     user, group = os.geteuid(), os.getegid()
     try:
         called("unshare", CLONE_NEWNET)
@@ -87,7 +87,7 @@ class Wire:
 
     drops: bool = False
     loses: float = 0  # the part of the packets that is dropped
-    twice: float = 0  # the part that comes twice
+    twice: float = 0  # the part that arrives twice
     delay: tuple = (0, 0)  # seconds, the least and the most
     mixes: bool = False  # whether a packet with a shorter delay overtakes
     rate: float = 0  # bytes a second; 0: any number
@@ -102,7 +102,7 @@ class Host:
         self.boot()
 
     def boot(self):
-        """Makes the namespace, anew where there was one: its connections are gone, and nobody was told."""
+        """Makes the namespace, anew if there was one: its connections are gone, and nobody was notified."""
         before = self.namespace
         self.namespace, device = in_a_thread(self.made)
         for words in (f"addr add {self.address}/24 dev {DEVICE}", f"link set {DEVICE} txqueuelen {PACKETS_WAITING} up", "link set lo up"):
@@ -120,7 +120,7 @@ class Host:
         return os.open("/proc/thread-self/ns/net", os.O_RDONLY), device
 
     def entering(self):
-        """The words before those of a program that is to run on this host. It inherits `namespace`."""
+        """The words before those of a program that will run on this host. It inherits `namespace`."""
         return ["nsenter", f"--net=/proc/self/fd/{self.namespace}"]
 
     def connected(self, address, port, timeout=10):
@@ -150,7 +150,7 @@ class Network:
         return Host(self, next(self.numbers))
 
     def tell(self, *words, files=()):
-        """Tells the carrier something, and gives its answer once it has done so."""
+        """Sends the carrier a command, and returns its answer once it is done."""
         socket.send_fds(self.end, [pickle.dumps(words)], list(files))
         return pickle.loads(self.end.recv(1 << 16))
 
@@ -158,7 +158,7 @@ class Network:
         self.tell("plug", number, files=[device])
 
     def wire(self, one, other, wire=None):
-        """From now on packets from one host to another are carried so; with no wire, all at once."""
+        """From now on packets from one host to another are carried by this wire; with no wire, all at once."""
         self.tell("wire", one.number, other.number, wire)
 
     def reset(self, one, other, with_bytes=False):
@@ -171,7 +171,7 @@ class Network:
         return self.tell("resets left")
 
     def counts(self):
-        """Packets by what became of them: carried, dropped, delayed, doubled, reset, strange (to no host)."""
+        """Packets by their outcome: carried, dropped, delayed, doubled, reset, strange (to no host)."""
         return self.tell("counts")
 
     def __enter__(self):
@@ -195,13 +195,13 @@ def checksum(words):
 
 
 def is_segment(packet, with_bytes):
-    """Whether a packet is a segment of a connection that is made already, and has bytes where it is to have some."""
+    """Whether a packet is a segment of a connection that is made already, and has bytes if it should have some."""
     is_one = packet[0] == 0x45 and packet[9] == socket.IPPROTO_TCP and packet[33] & (SYN | RST | ACK) == ACK
     return is_one and (not with_bytes or len(packet) > 20 + (packet[32] >> 4) * 4)
 
 
 def reset_of(packet):
-    """A reset in the place of a segment: with its addresses and its number, so that its receiver takes it."""
+    """A reset in place of a segment: with its addresses and its number, so that its receiver takes it."""
     tcp = packet[20:32] + struct.pack("!BBHHH", 5 << 4, RST | ACK, 0, 0, 0)
     pseudo = packet[12:20] + struct.pack("!BBH", 0, socket.IPPROTO_TCP, len(tcp))
     tcp = tcp[:16] + struct.pack("!H", checksum(pseudo + tcp)) + tcp[18:]
@@ -233,7 +233,7 @@ class Carrier:
                 self.put(*heapq.heappop(self.late)[2:])
 
     def hear(self):
-        """Does what the script says. False where it is gone."""
+        """Does what the script commands. False if the script has ended."""
         words, files, *_ = socket.recv_fds(self.control, 1 << 16, 1)
         if not words:
             return False

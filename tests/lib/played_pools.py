@@ -1,5 +1,5 @@
-"""A pool of one server, played by a script on a socket of this machine: a right one, and some that make a mistake each. A checker of pools is
-tried on them.
+"""A pool of one server, played by a script on a socket of this machine: a right one, and some that make a mistake each. They test a checker
+of pools.
 
     with Relay(seed) as pool:
         ..pool.connected()..
@@ -66,7 +66,7 @@ class Relay:
                     text, unread = unread[: request.size], unread[request.size :]
                     connection.sendall(self.answer(connection, text))
 
-    # What a pool does with a request. A mistake overrides one of these.
+    # How a pool handles a request. A mistake overrides one of these.
 
     def new_cache(self):
         return Server(0, BUDGET, ITEMS)
@@ -186,7 +186,7 @@ class ShowsOlder(Relay):
 
 
 class ComesBack(Relay):
-    """A get of an item that is held misses. Later gets show it."""
+    """A get of a stored item misses. Later gets show it."""
 
     def executed(self, text):
         reply = super().executed(text)
@@ -211,7 +211,7 @@ class AnswersAhead(Relay):
 
 
 class AddsAlways(Relay):
-    """An add stores, though something is held. No client can see that: the register may have forgotten it."""
+    """An add stores, though an item is stored. No client can see that: the register may have forgotten it."""
 
     def executed(self, text):
         text = b"set" + text[3:] if text.startswith(b"add ") and self.errs() else text

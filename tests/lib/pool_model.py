@@ -1,11 +1,11 @@
 #!/usr/bin/env python3
-"""A plain model of a pool: what a proxy and its servers do, and what must hold of all that they tell.
+"""A plain model of a pool: what a proxy and its servers do, and what must hold of all their output.
 
-It is written from the rules of the protocol and of pool scripts, with none of the repository's definitions. `Pool` plays a script
-step by step; `faults_of` looks at what was told of a world that played it: at the events that were done, those of each drain among
-them, and each client's text, each client's bytes and each server's history. The caches are those of model.py, the ring that of rings.py.
+It is written from the rules of the protocol and of pool scripts, with none of the repository's definitions. `Pool` plays a script step
+by step; `faults_of` checks the output of a world that played it: the events that were done, those of each drain among them, and each
+client's text, each client's bytes and each server's history. The caches are those of model.py, the ring that of rings.py.
 
-Usage: pool_model.py [--account] < SCRIPT      (prints what mc_sim is to print for a pool script)
+Usage: pool_model.py [--account] < SCRIPT      (prints the output that mc_sim should have for a pool script)
 """
 
 import base64
@@ -23,7 +23,7 @@ CLIENT_MARK = 4_194_304  # unsent bytes to a client
 LINK_MARK = 8_388_608  # unsent bytes on a link
 MOST_CONNECTIONS = 1024  # of a server
 LINK_LOST = b"SERVER_ERROR link lost\r\n"
-LOSSES = ("told", "missed")  # what clients are told of lost commands: the line of a lost link, or as little as a cache may say
+LOSSES = ("told", "missed")  # the answer to clients about lost commands: the line of a lost link, or as little as a cache may say
 NO_MEMORY = b"SERVER_ERROR out of memory storing object\r\n"
 MODES = {"set": "S", "add": "E", "append": "A", "prepend": "P", "replace": "R", "incr": "I", "decr": "D"}
 
@@ -38,8 +38,8 @@ Atom = collections.namedtuple("Atom", "key line")  # a flush has no key
 
 
 class Request:
-    """A request or fault: its commands, and what it is answered by their replies. Of a retrieval `miss` is the reply of a server that
-    does not have the item; `quiet` is whether a request hides its reply, by `noreply` or `q`."""
+    """A request or fault: its commands, and its answer by their replies. For a retrieval `miss` is the reply of a server that does
+    not have the item; `quiet` is whether a request hides its reply, by `noreply` or `q`."""
 
     def __init__(self, atoms, answer, size, closes, miss, quiet):
         self.atoms = atoms
@@ -59,7 +59,7 @@ def with_end(replies):
 
 
 def meta_answer(name, key, asked, reply):
-    """The reply to a meta command as its client asked for it."""
+    """The reply to a meta command in the form that its client asked for."""
     if is_error(reply):
         return reply
     line, rest = reply.split(b"\r\n", 1)
@@ -89,7 +89,7 @@ class Reader(Server):
         super().__init__(0, 1, 1)
 
     def read(self, unread):
-        """The first request or fault of a text, or nothing where it has not come whole."""
+        """The first request or fault of a text, or nothing if it has not arrived whole."""
         connection = Connection()
         connection.unread = bytes(unread)
         self.atoms, self.quiet, self.answer, self.miss = [], False, None, None
@@ -168,7 +168,7 @@ READER = Reader()
 
 
 def requests_of(text):
-    """The requests and faults of a text, as far as they have come whole; none follows one that closes."""
+    """The requests and faults of a text, as far as they have arrived whole; none follows one that closes."""
     requests, at = [], 0
     while True:
         request = READER.read(text[at:])
@@ -181,7 +181,7 @@ def requests_of(text):
 
 
 def answered(request, outcomes, losses):
-    """The answer to a request, by what clients are told of losses: an outcome is a reply, or nothing if the command is lost."""
+    """The answer to a request, by the choice for lost commands: an outcome is a reply, or nothing if the command is lost."""
     if None not in outcomes:
         return request.answer(outcomes)
     if losses == "missed" and request.miss:
@@ -198,7 +198,7 @@ class BadLine(Exception):
 
 
 class Script:
-    """A pool script: its head, the ring's points, what clients are told of losses, and what comes."""
+    """A pool script: its head, the ring's points, the choice for lost commands, and the events."""
 
     def __init__(self, lines):
         self.servers, self.clients, self.budget, self.items = (int(word) for word in lines[0].split(" ")[1:])
@@ -233,7 +233,7 @@ class Script:
 
 
 def joined(ring, place, address):
-    """A ring with a server more."""
+    """A ring with one more server."""
     more = Ring([])
     more.points = sorted(set(ring.points) | {(point, place) for point in points_of(address)})
     return more
@@ -243,7 +243,7 @@ CLIENT_EVENTS = ("bytes", "gone", "turn", "emit", "takes")
 
 
 def event_of(line):
-    """The event of a line: its name, and what follows it as numbers, bytes or an address."""
+    """The event of a line: its name, and its words after that as numbers, bytes or an address."""
     name, rest = line.split(" ", 1)
     if name == "join":
         return name, rest
@@ -296,7 +296,7 @@ class Site:
         self.up = True
         self.generation = 1
         self.ways = {1: Way()}  # the living one, and the lost ones whose end was not seen
-        self.come = 0  # bytes that came back and are unread
+        self.come = 0  # bytes that arrived at the proxy and are unread
         self.replied = 0  # replies that were taken, of the living generation
 
     def living(self):
@@ -351,7 +351,7 @@ class Pool:
         return True
 
     def next_request(self, number):
-        """What a client's turn takes, if it takes one."""
+        """The request that a client's turn takes, if it takes one."""
         client = self.clients[number]
         if client.gone or client.closed or len(client.unanswered) >= MOST_UNANSWERED or client.unsent() >= CLIENT_MARK:
             return None
@@ -482,10 +482,10 @@ class Pool:
         site.cache, site.ways = fresh.cache, {}
         return True
 
-    # All that is left to do
+    # Drains
 
     def drain(self, moment):
-        """Lost generations end, and then rounds are gone until one does nothing. What was done is kept, and it always applies."""
+        """Lost generations end, and then rounds follow until one does nothing. What was done is kept, and it always applies."""
         done = []
         for place, site in enumerate(self.sites):
             lost = [generation for generation in site.ways if not (site.up and generation == site.generation)]
@@ -511,7 +511,7 @@ class Pool:
             self.in_turn(done, ("emit", client), ("takes", client, ALL))
 
     def in_turn(self, done, *events):
-        """Each of these as often as it applies, one after another, until none does."""
+        """Each of these as often as it applies, in sequence, until none does."""
         going = True
         while going:
             before = len(done)
@@ -535,7 +535,7 @@ def routed(request, ring, servers):
 
 
 def played(script, new_cache=Server):
-    """What a pool tells that has played a script."""
+    """The output of a pool that has played a script."""
     pool = Pool(script, new_cache)
     return pool.told([pool.step(event) for event in script.events])
 
@@ -571,7 +571,8 @@ def log_of(script, told):
 
 
 class Account:
-    """What is known of a world by the events that were done alone: what was taken and routed where, when, and what became of it."""
+    """What is known of a world by the events that were done alone: which requests were taken and routed where, when, and their
+    outcomes."""
 
     def __init__(self, script, told):
         self.script, self.told = script, told
@@ -587,7 +588,7 @@ class Account:
         self.generation = [1] * script.servers
         self.sent = [{1: []} for _ in range(script.servers)]  # tags by generation
         self.waiting = [[] for _ in range(script.servers)]
-        self.begun = [[] for _ in told.histories]  # how many turns came before each restart
+        self.begun = [[] for _ in told.histories]  # how many turns there were before each restart
         self.buried = collections.Counter()  # the last generation that a restart ended, by place
         self.losses = collections.defaultdict(list)  # the places in the log, by server
         self.ring = script.ring()
@@ -681,7 +682,7 @@ class Account:
         self.gone.add(client)
 
     def log_drain(self, at, moment):
-        """Nothing is left once a drain was done: of each client that is there all that came whole is answered."""
+        """Nothing is left once a drain was done: all whole requests of each client that has not gone are answered."""
         for client, (taken, put) in enumerate(self.counts):
             if client not in self.gone and not taken == put == len(requests_of(bytes(self.come[client]))):
                 self.fault(f"event {at[0]}: client {client} has requests that are not answered")
@@ -696,7 +697,7 @@ class Account:
         self.sent.append({1: []})
         self.waiting.append([])
 
-    # What is told
+    # The output
 
     def check(self):
         self.read_log()
@@ -776,7 +777,7 @@ class Account:
                 self.fault(f"client {client} was sent {self.told.outs[client]!r}, and its answers are {wanted!r}")
 
     def reply_of(self, tag):
-        """The reply of a command, or nothing where it is lost."""
+        """The reply of a command, or nothing if it is lost."""
         if self.outcome[tag] == "lost":
             return None
         if tag not in self.entries:
@@ -800,7 +801,7 @@ class Account:
 
 
 def faults_of(script, told):
-    """What is wrong in what was told of a world that played a script."""
+    """The faults in the output of a world that played a script."""
     return Account(script, told).check()
 
 

@@ -4,14 +4,14 @@
 Usage: random_script.py [COMMANDS [SEED [CLIENTS [PIECES]]]]      (10,000 commands, seed 1, 8 clients, `commands`)
 
 Half of the commands are meta commands. Most name a key of the last few, so that one command meets what another left.
-What is written is played to the model (model.py) on the way, which tells the numbers and deadlines of the items held:
-so numbers that are compared are often the right ones, and moments often those at which something ends. A key comes
-plain and in base64.
+The script is played to the model (model.py) while it is written, which knows the numbers and deadlines of the stored
+items: so numbers that are compared are often the right ones, and moments often those at which something ends. A key is
+written plain and in base64.
 
-Each command goes to a random client, sometimes cut in two at a random place with a turn of another client between,
-and is followed by a turn of its client; a run of quiet commands, ended by `mn`, goes as one piece, with as many turns
-as it has commands. With `bytes` for the pieces each byte comes by itself, with a turn of its client after it.
-Moments mostly rise by 0 to 2 seconds, and now and then fall back.
+Each command is sent by a random client, sometimes cut in two at a random place with a turn of another client between,
+and is followed by a turn of its client; a run of quiet commands, ended by `mn`, is one piece, with as many turns as it
+has commands. With `bytes` for the pieces each byte arrives by itself, with a turn of its client after it. Moments
+mostly rise by 0 to 2 seconds, and now and then fall back.
 """
 
 import base64
@@ -38,7 +38,7 @@ def value(dice):
 
 
 class Scene:
-    """What a command is made from: the dice, the moment, the keys named last, and the server as the model has it."""
+    """The parts of a command: the dice, the moment, the keys named last, and the server as the model has it."""
 
     def __init__(self, seed, clients):
         self.dice = random.Random(seed)

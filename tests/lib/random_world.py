@@ -1,6 +1,7 @@
-"""Random worlds: pools, whose clients send commands of all kinds (random_script.py), whole and in pieces, and to which all happens that a
-pool script can say, mostly where it applies. A world has 1 to 5 servers and 1 to 20 clients, points of its own or libketama's, caches from
-tiny to large. In half of the worlds losses are missed, unless a caller asks for one of the two. Many end with a drain, and a try of each event that a pool does by itself.
+"""Random worlds: pools whose clients send commands of all kinds (random_script.py), whole and in pieces, and with all events that a pool script
+can have, mostly if they apply. A world has 1 to 5 servers and 1 to 20 clients, points of its own or libketama's, caches from tiny to large. In
+half of the worlds losses are missed, unless a caller asks for one of the two. Many end with a drain, and a try of each event that a pool does by
+itself.
 """
 
 import random
@@ -15,7 +16,7 @@ LIMITS = [1, 2, 5, 40, 1000, 16777216]
 
 
 class PoolScene(Scene):
-    """What a command is made from, where its key may be held by any server."""
+    """The parts of a command whose key may be stored by any server."""
 
     def __init__(self, dice, pool):
         self.dice = dice
@@ -45,8 +46,8 @@ def points_of_world(dice, servers):
 
 
 def losses_of_world(seed, losses):
-    """The line that says what clients are told of losses, or none if that is the default. The dice are its own, so that the worlds of a
-    seed differ in what clients are told alone."""
+    """The line with the choice for lost commands, or none if that is the default. The dice are its own, so that the worlds of a seed differ only
+    in the answers about losses."""
     dice = random.Random(f"losses {seed}")
     losses = losses or dice.choice(LOSSES)
     return [] if losses == "told" and dice.random() < 0.5 else [f"losses {losses}"]
@@ -64,7 +65,7 @@ class World:
         self.lines += points + said if seed % 2 else said + points
         self.pool = Pool(Script(self.lines))
         self.scene = PoolScene(dice, self.pool)
-        self.left = [b""] * clients  # what is still to come of a client's command
+        self.left = [b""] * clients  # the rest of a client's command
         lost = dice.choice([0, 0.1, 0.3, 1])
         restart = random.Random(f"restarts {seed}").choice([0, 0, 0.1, 0.6])
         self.chances = {
@@ -80,7 +81,7 @@ class World:
         self.lines.append(line)
         return self.pool.step(event_of(line))
 
-    # Where events apply
+    # When events apply
 
     def clients_that(self, test):
         return [number for number, client in enumerate(self.pool.clients) if not client.gone and test(client)]
@@ -127,7 +128,7 @@ class World:
             return place, dice.choice([0, 1, dice.randrange(self.pool.sites[place].generation + 2), ALL])
         return (place,)
 
-    # What comes
+    # The events
 
     def count(self):
         dice = self.dice
@@ -173,7 +174,7 @@ class World:
         self.add(" ".join(str(word) for word in words))
 
     def crowd(self):
-        """One of the marks is met at which a turn waits: requests that are not answered, bytes that a client or a link is owed."""
+        """One of the marks is reached at which a turn waits: requests that are not answered, unsent bytes to a client or on a link."""
         client = self.dice.randrange(len(self.pool.clients))
         kind = self.dice.choice(["requests", "client", "link"])
         big = b"set big 0 0 1000000\r\n" + b"v" * 1000000 + b"\r\n"
@@ -193,7 +194,7 @@ class World:
             self.add(f"turn {client}")
 
     def settle(self, takes=True):
-        """All that can still go on goes on, until nothing is left."""
+        """All that can still progress does, until nothing is left."""
         going = True
         while going:
             going = False

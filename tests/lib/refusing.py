@@ -1,11 +1,12 @@
-"""Refuses allocations of a program, by a library in front of the C library. The machine's C compiler builds it: `$CC`, or else `cc`."""
+"""Refuses allocations of a program, by a library in front of the C library. The machine's C compiler builds it: `$CC`, or `cc` if that
+is not set."""
 
 import os
 import shlex
 import subprocess
 
-SECONDS = 60  # until a run is given up
-TOLD = b"refused\n"  # what it writes on standard error for each that it refuses
+SECONDS = 60  # until the script gives up on a run
+TOLD = b"refused\n"  # its line on standard error for each allocation that it refuses
 
 SOURCE = r"""
 typedef unsigned long size_t;
@@ -34,7 +35,7 @@ void *realloc(void *block, size_t size) { return is_refused(size) ? 0 : __libc_r
 
 
 def build(folder):
-    """Builds the library, and gives its path."""
+    """Builds the library, and returns its path."""
     source, library = f"{folder}/refuses.c", f"{folder}/refuses.so"
     with open(source, "w", encoding="ascii") as file:
         file.write(SOURCE)
@@ -44,8 +45,8 @@ def build(folder):
 
 
 def run(library, words, first, count, least=0, **how):
-    """Runs a program with so many allocations refused from the first on, of those that ask for so many bytes at least. Gives the run, whose
-    errors are the program's own, and how many were refused."""
+    """Runs a program with this many allocations refused from the first on, of those that ask for at least this many bytes. Returns the
+    run, whose errors are the program's own, and how many were refused."""
     names = {"LD_PRELOAD": library, "REFUSED_FIRST": str(first), "REFUSED_COUNT": str(count), "REFUSED_LEAST": str(least)}
     streams = {"stdout": subprocess.PIPE, "stderr": subprocess.PIPE, "close_fds": False}
     ran = subprocess.run(words, env={**os.environ, **names}, timeout=SECONDS, **streams, **how)

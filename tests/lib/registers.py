@@ -62,7 +62,7 @@ class Item(NamedTuple):
 
 
 def done(item, command, number):
-    """What is held after a command, and its answer, if this item is held, or none. What it stores has the number."""
+    """The item after a command, and its answer, if this item is stored, or none. The item that it stores has the number."""
     name, *words = command
     if name == "restart":
         return None, RESTARTED
@@ -122,7 +122,7 @@ def numbers_of(call):
 
 
 def outcomes(call, item, last, most):
-    """What may be held after a call, with the last number that was given then; the last one before is `last`."""
+    """The possible items after a call, with the last number that was given then; the last one before is `last`."""
     for held in {item, None}:
         for number in range(last + 1, most + 1):
             after, answer = done(held, call.command, number)
@@ -134,8 +134,8 @@ def outcomes(call, item, last, most):
 
 
 class State(NamedTuple):
-    """What is known of the register: the value that is held, or None. If something is held and its number is known, `number` is it, and the
-    last one that was given. Else the last number is any from `least` on, except `others`.
+    """What is known of the register: the value that is stored, or None. If something is stored and its number is known, `number` is it, and the
+    last one that was given. Otherwise the last number is any from `least` on, except `others`.
     """
 
     value: Any = None
@@ -156,14 +156,14 @@ def stored(state, value, number=None):
 
 
 def numbered(state, number):
-    """The state, if the item that is held has this number; else None."""
+    """The state, if the stored item has this number; None otherwise."""
     if state.number is not None:
         return state if state.number == number else None
     return State(state.value, number, number) if number >= state.least and number not in state.others else None
 
 
 def numbered_otherwise(state, number):
-    """The state, if the item that is held has another number; else None."""
+    """The state, if the stored item has another number; None otherwise."""
     if state.number is not None:
         return None if state.number == number else state
     others, least = state.others | {number}, state.least
@@ -187,7 +187,7 @@ def after(state, command, answer):
 
 
 def after_held(state, name, words, answer):
-    """Likewise, if something is held and the answer says so."""
+    """Likewise, if an item is stored and the answer shows it."""
     if name in ("get", "gets"):
         _, value, number = answer
         if value != state.value:
@@ -318,7 +318,8 @@ class Search:
         return any(call.answer[0] != "hit" or command[0] in COUNTS or command[1] == call.answer[1] for command in left)
 
     def left(self, way):
-        """The unanswered calls that a way has not used. Of those with the same command it is the first: which of them was done does not count."""
+        """The unanswered calls that a way has not used. Of those with the same command it is the first: it does not matter which of them was
+        done."""
         for ones in self.unanswered.values():
             one = next((one for one in ones if one not in way.used), None)
             if one is not None:

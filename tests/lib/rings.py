@@ -31,7 +31,7 @@ class Ring:
         return self.points[at % len(self.points)][1]
 
     def keys(self, place, count, beginning="k"):
-        """So many keys that the server of a place owns."""
+        """This many keys that the server of a place owns."""
         named = (f"{beginning}{number}".encode() for number in itertools.count())
         return list(itertools.islice((key for key in named if self.owner(key) == place), count))
 

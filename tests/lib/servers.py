@@ -1,11 +1,10 @@
-"""Starts the programs that scripts try: mc_serverd and mc_proxyd, or Debian's memcached and nutcracker where a program has that
-name.
+"""Starts the programs that scripts try: mc_serverd and mc_proxyd, or Debian's memcached and nutcracker if a program has that name.
 
     with Server(program) as server, Proxy(proxy_program, [server.address]) as proxy:
         ..proxy.port, server.process.pid..
 
-The port is one that was free a moment ago, on 127.0.0.1, where no host of a network of the script's own is given (`on`, network.py).
-A program takes connections from the first line of the block on, and is ended at the end of it.
+The port is one that was free a moment ago, on 127.0.0.1 unless a host of a network of the script's own is given (`on`, network.py). A
+program takes connections from the first line of the block on, and is ended at the end of it.
 """
 
 import ctypes
@@ -19,11 +18,11 @@ import subprocess
 import tempfile
 import time
 
-# With it the programs say more on standard error, as for systemd's journal.
+# With it the programs write more on standard error, as for systemd's journal.
 os.environ.pop("JOURNAL_STREAM", None)
 
 HOST = "127.0.0.1"
-PIDFD_GETFD = 438  # pidfd_getfd(2), of which Python has no call
+PIDFD_GETFD = 438  # pidfd_getfd(2), for which Python has no call
 SECONDS_TO_START = 20
 SECONDS_TO_END = 10
 EPHEMERAL = pathlib.Path("/proc/sys/net/ipv4/ip_local_port_range")
@@ -41,8 +40,8 @@ POOL = """pool:
 
 
 def free_port():
-    """A port that nobody listens at, and that the system gives to no connection: where a server is gone for a while, whoever
-    connects to its port again and again would else be given that port for its own side one day, and so meet itself."""
+    """A port that nobody listens at, and that the system gives to no connection. While a server is gone, a client that connects to
+    its port repeatedly could otherwise be given that port for its own side one day, and so connect to itself."""
     first_given = int(EPHEMERAL.read_text().split()[0])
     while True:
         port = random.randrange(first_given // 2, first_given)
@@ -63,7 +62,7 @@ def is_nutcracker(program):
 
 
 def connected(port, timeout=10):
-    """A connection to a program of this machine that sends at once what it is given."""
+    """A connection to a program of this machine that sends each piece at once."""
     connection = socket.create_connection((HOST, port), timeout=timeout)
     connection.setsockopt(socket.IPPROTO_TCP, socket.TCP_NODELAY, 1)
     return connection
@@ -90,11 +89,11 @@ def limit(limits):
 class Listener:
     """A program that was started with these words, and listens at a port.
 
-    `limits` are kinds of resources with the most of each, `environment` what it finds beside this process's own environment. Where its
-    standard output is no pipe nobody waits for it to start. `on` is the host that it runs on, where that is not this machine.
+    `limits` are kinds of resources with the most of each, `environment` is added to this process's own environment. If its standard
+    output is no pipe nobody waits for it to start. `on` is the host that it runs on, if that is not this machine.
     """
 
-    says_where = True  # whether it prints where it listens; else it is tried
+    says_where = True  # whether it prints where it listens; otherwise it is tried
 
     def __init__(self, program, words, port, limits=(), stdout=subprocess.PIPE, stderr=None, on=None, environment=None):
         self.program, self.port, self.on = str(program), port, on
@@ -154,11 +153,11 @@ class Listener:
         self.stop()
 
     def ended(self):
-        """Its status and what it wrote as errors, once it has ended by itself."""
+        """Its status and its text on standard error, once it has ended by itself."""
         return self.process.wait(SECONDS_TO_END), self.process.stderr.read()
 
     def memory(self, what="VmRSS"):
-        """Bytes of memory: VmRSS is what it has resident, VmHWM the most that it ever had."""
+        """Bytes of memory: VmRSS is its resident memory, VmHWM the most that it ever had."""
         for line in pathlib.Path(f"/proc/{self.process.pid}/status").read_text().splitlines():
             if line.startswith(what + ":"):
                 return int(line.split()[1]) * 1024
@@ -169,7 +168,7 @@ class Listener:
         return len(os.listdir(f"/proc/{self.process.pid}/fd"))
 
     def connections(self):
-        """Its connected sockets, each once more for this process."""
+        """Its connected sockets, each opened once more for this process."""
         process, found = os.pidfd_open(self.process.pid), []
         for name in os.listdir(f"/proc/{self.process.pid}/fd"):
             if os.readlink(f"/proc/{self.process.pid}/fd/{name}").startswith("socket:"):
@@ -187,7 +186,7 @@ class Listener:
         return time.clock_gettime(~self.process.pid << 3 | 2)
 
     def user_and_system(self):
-        """The same as seconds in its own code and in the kernel, as the kernel's ticks tell (10 milliseconds each)."""
+        """Likewise as seconds in its own code and in the kernel, by the kernel's ticks (10 milliseconds each)."""
         fields = pathlib.Path(f"/proc/{self.process.pid}/stat").read_text().rpartition(")")[2].split()
         ticks = os.sysconf("SC_CLK_TCK")
         return int(fields[11]) / ticks, int(fields[12]) / ticks
@@ -196,7 +195,7 @@ class Listener:
 class Server(Listener):
     """A server, with a budget of bytes and a limit of items, and further words.
 
-    memcached has its own ways with both: it gets 64 MiB and twice the budget, so that it evicts nothing, or `megabytes`.
+    memcached treats both in its own way: it gets 64 MiB and twice the budget, so that it evicts nothing, or `megabytes`.
     """
 
     def __init__(self, program, budget=67108864, items=65536, port=None, words=(), on=None, megabytes=None, environment=None, **streams):
@@ -208,11 +207,11 @@ class Server(Listener):
         else:
             megabytes = megabytes or 64 + 2 * budget // 2**20
             words = f"-l {HOST} -p {port} -U 0 -t 1 -u nobody -m {megabytes} -c 2000".split()
-            # It tells of each connection that broke.
+            # It reports each connection that broke.
             super().__init__(program, words, port, stderr=subprocess.DEVNULL, environment=environment)
 
     def version(self):
-        """What it answers to `version`, with the version of its own that memcached has there."""
+        """Its answer to `version`, with the version of its own that memcached has there."""
         with self.connected() as connection:
             connection.sendall(b"version\r\n")
             return connection.recv(100).decode().strip()

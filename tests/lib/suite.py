@@ -1,4 +1,5 @@
-"""What every suite has: where things are in the repository, whether a program is built, and the last line, which counts."""
+"""The common part of every suite: where things are in the repository, whether a program is built, and the last line,
+which counts."""
 
 import pathlib
 import sys
@@ -15,7 +16,7 @@ def built(name):
 
 
 def are_built(*programs):
-    """Whether the programs are there; where they are not, says so as a failure."""
+    """Whether the programs exist; if they do not, it reports that as a failure."""
     missing = [str(program) for program in programs if not pathlib.Path(program).is_file()]
     if missing:
         print(f"{NAME}: {', '.join(missing)} is not built, so nothing was tried\n0 passed, 1 failed")
@@ -28,7 +29,7 @@ def examples():
 
 
 def counted(told):
-    """Prints how many passed and how many failed, and gives the exit status: 1 where one failed, or none was tried."""
+    """Prints how many passed and how many failed, and returns the exit status: 1 if one failed, or none was tried."""
     told = list(told)
     print(f"{told.count(True)} passed, {told.count(False)} failed")
     return 0 if told and all(told) else 1

@@ -46,16 +46,16 @@ use Rattle.mc_cache_laws.proofs.OutcomeLemmas.{EndsStored, IsAdmitted, with_cont
 use Rattle.mc_cache_laws.proofs.GoodBodyLemmas.{IsGoodHeld, IsGoodContent, IsGoodDeadline, held_is_good, put_is_good, marked_is_good, taken_is_good, fronted_is_good, emptied_is_good, settled_is_good, numbered_is_good, stored_is_good, deadline_is_good, expiry_is_good, content_is_good}
 use Rattle.mc_cache_laws.proofs.ShownLemmas.{first_item}
 
--- what holds of what is there
+-- what holds of a part that exists
 at_some : {A : Type 0} (P : A → Type 0) (part : Option A) (x : A) → part ≡ Some x → IfSome part P → P x
 at_some P part x is holds = subst (λ o. IfSome o P) is holds
 
--- what is none
+-- a part that is none
 none_is : {A : Type 0} (part : Option A) → is_none part ≡ true → part ≡ None
 none_is None is = refl
 none_is (Some x) is = absurd cc
 
--- a part that is there where it is asked for
+-- a part that exists if it is asked for
 asked_is : {A : Type 0} (test : A → Bool) (is_asked : Bool) (part : A) → test part ≡ true → is_as_asked test is_asked (then_some is_asked part) ≡ true
 asked_is test true part passes = passes
 asked_is test false part passes = refl
@@ -93,7 +93,7 @@ record IsGoodMetaEnd (update : Update (List ℕ) (List ℕ)) (show : Show) (mome
   cache : IsGoodCache o.0
   reply : can_have_meta (metas.Update update show) (told show moment Plain (body_at key o.0.items) o.1) ≡ true
 
--- what a storage command answers where it stores nothing
+-- what a storage command answers if it stores nothing
 unmet_is : (mode : StoreMode) (held : Option Body) (key : List ℕ) (compare : Option ℕ) (flags : ℕ) (exptime : ℤ) (block : List ℕ)
     → IfSome (unmet mode held) (λ reply. can_have_update (Store mode compare key flags exptime block) reply ≡ true)
 unmet_is Set None key compare flags exptime block = tt
@@ -177,7 +177,7 @@ store_is_good_for_meta s mode compare key held new refused flags exptime block s
       };
     })
 
--- an item that is touched
+-- a touched item is good
 touched_is_good : (counter : ℕ) (exptime : Option ℤ) (moment : ℕ) (body : Body) → is_where_some is_i64 exptime ≡ true → moment < 2 ^ 63 → IsGoodBody counter body
     → IsGoodBody counter (touched exptime moment body)
 touched_is_good counter exptime moment body fits early good =
@@ -221,7 +221,7 @@ delete_is_good : (s : CacheState) (key : List ℕ) (held : Option Body) → IsGo
 delete_is_good s key None good was = record { cache = good; reply = refl }
 delete_is_good s key (Some body) good was = record { cache = taken_is_good s key good; reply = refl }
 
--- nothing is asked to be shown
+-- a command asks for nothing to be shown
 record AsksNothing (show : Show) : Type 0 where
   cas : show.cas ≡ false
   flags : show.flags ≡ false

@@ -46,11 +46,11 @@ pub record Matches (s : CacheState) (key : List ℕ) (expected : KeyOutcome) (o 
   pub within : IsHeldWithin o.0.budget o.0.limit o.0.items
   pub pending : o.0.pending ≡ None
 
--- where it is not refused, and evicts nothing
+-- an outcome that is not refused and evicts nothing is that of the map
 abbrev pub Follows : CacheState → List ℕ → KeyOutcome → Outcome → Type 0
 Follows s key expected o = is_refused_store o.1 ≡ false → length (without key o.0.items) ≡ length (without key s.items) → Matches s key expected o
 
--- nothing is done
+-- nothing changes
 same-matches : (s : CacheState) (key : List ℕ) (reply : Reply (List ℕ)) → IsUnflushed s → Matches s key (map_of s.items key, reply) (s, reply)
 same-matches s key reply good = record { reply = refl; own = refl; others = λ other differ. refl; within = good.within; pending = good.pending }
 
@@ -63,7 +63,7 @@ fronted-matches s key reply good = record {
   pending = good.pending;
 }
 
--- a held body is changed, and its value is no longer
+-- a stored body is changed, and its value is no longer
 put-matches : (s : CacheState) (key : List ℕ) (old new : Body) (counter : ℕ) (reply : Reply (List ℕ)) → IsUnflushed s → body_at key s.items ≡ Some old
     → length new.value ≤ length old.value
     → Matches s key (Some (unnumbered new), reply) (record s { items = brought key (Some new) s.items; counter = counter }, reply)
@@ -84,7 +84,7 @@ taken-matches s key reply good = record {
   pending = good.pending;
 }
 
--- all is kept where as many items are
+-- all items are kept if their number stays
 kept-all : (budget limit : ℕ) (items : Items) → length (kept budget limit items) ≡ length items → kept budget limit items ≡ items
 kept-all budget limit items same =
     let begins = kept-begins budget limit items in
@@ -93,7 +93,7 @@ kept-all budget limit items same =
       | item ∷ rest ↦ λ is. absurd (let longer : length items ≡ length (kept budget limit items) + length (item ∷ rest) = ap length is ∙ length-append (kept budget limit items) (item ∷ rest) in omega arith)
     ]) begins.1
 
--- what is stored
+-- a content is stored
 content-matches : (s : CacheState) (key : List ℕ) (content : Content) (reply : Reply (List ℕ)) → IsUnflushed s → IsAdmitted s key content
     → Follows s key (put content reply) (with_content s key content, reply)
 content-matches s key content reply good admitted answered many =
@@ -123,7 +123,7 @@ content-ends s key content reply good = record {
   done = content-matches s key content reply good;
 }
 
--- what a storage command does, the number plays no part in
+-- the number plays no part in what a storage command does
 unmet-unnumbered : (mode : StoreMode) (held : Option Body) → unmet mode (option_map unnumbered held) ≡ unmet mode held
 unmet-unnumbered Set None = refl
 unmet-unnumbered Set (Some body) = refl
@@ -159,7 +159,7 @@ store-follows s compare mode key new refused plain good =
     (λ is. subst (λ a. EndsStored (Follows s key (store_key (map_of s.items key) a (content_by mode held new))) s key (content_by mode held new) Stored) (sym is)
     (content-ends s key (content_by mode held new) Stored good)))
 
--- the others, by what is held
+-- the other commands, by the stored item
 get-follows : (s : CacheState) (key : List ℕ) (held : Option Body) (exptime : Option ℤ) (moment : ℕ) → body_at key s.items ≡ held → IsUnflushed s
     → Follows s key (get_key (option_map unnumbered held) exptime moment) (get_step s key held exptime false moment)
 get-follows s key None exptime moment is good answered many = subst (λ h. Matches s key (option_map unnumbered h, Miss) (s, Miss)) is (same-matches s key Miss good)
@@ -226,11 +226,11 @@ told-unnumbered : (show : Show) (moment : ℕ) (marks : Marks) (held : Option Bo
 told-unnumbered show moment marks None reply hides = refl
 told-unnumbered show moment marks (Some body) reply hides = grind (arith, shown-unnumbered)
 
--- an error line is told as it is
+-- an error line is shown as it is
 told-refusal : (show : Show) (moment : ℕ) (marks : Marks) (held : Option Body) (reply : Reply (List ℕ)) → is_refused_store (told show moment marks held reply) ≡ false → is_refused_store reply ≡ false
 told-refusal show moment marks held reply answered = grind arith
 
--- a meta command follows where its update does
+-- a meta command follows if its update does
 told-follows : (s : CacheState) (key : List ℕ) (show : Show) (moment : ℕ) (marks : Marks) (expected : KeyOutcome) (o : Outcome) → show.cas ≡ false
     → Follows s key expected o → Follows s key (told_key show moment marks expected) (o.0, told show moment marks (body_at key o.0.items) o.1)
 told-follows s key show moment marks expected o hides follows answered many = grind (arith, told-unnumbered, told-refusal)

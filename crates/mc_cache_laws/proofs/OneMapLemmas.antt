@@ -1,4 +1,4 @@
--- A cache, and several, that are one map.
+-- One cache, and several, act as one map.
 use Rattle.std.proofs.Common.{◌≡◌, ◌∙◌, ℕ, ◌==◌, Bool, true, false, cond, List, [], ◌∷◌, length, Option, Some, None, refl, sym, ap, arith, subst}
 use Rattle.std.specs.Option.{option_map}
 use Rattle.std.specs.Str.{bytes_eq}
@@ -23,7 +23,7 @@ use Rattle.mc_cache_laws.specs.MapLaws.{is_of_map, is_refused_store, keeps_other
 use Rattle.mc_cache_laws.specs.Pools.{Executed, Caches, caches_with, pool_step, pool_after, pool_replies, map_replies, map_after, commands_at, IsAtOwner, ArePlainSteps, StepPlainly, replies_at, AreMap, AreUnflushed, opening_caches, empty_map, ActAsMap}
 use Rattle.mc_cache_laws.proofs.MapStepLemmas.{Matches, settled_step-follows}
 
--- what is found has no number either
+-- an item that is found has no number either
 found-unnumbered : (moment : ℕ) (held : Option Body) → found moment (option_map unnumbered held) ≡ option_map unnumbered (found moment held)
 found-unnumbered moment None = refl
 found-unnumbered moment (Some body) =
@@ -101,7 +101,7 @@ steps_as_map s good map holds atom moment refused plain =
       | Some key ↦ λ is. step-at s good map holds atom moment refused plain key is
     ]) refl
 
--- what a command finds under its key alone decides its reply, and under another key what is held there
+-- the item under its key alone decides a command's reply; under another key the item stays
 step-reply : (map other : OneMap) (atom : Atom (List ℕ)) (moment : ℕ) (key : List ℕ) → atom_key atom ≡ Some key → map key ≡ other key
     → (map_step map atom moment).1 ≡ (map_step other atom moment).1
 step-reply map other atom moment key is same = grind arith
@@ -162,7 +162,7 @@ next-own : (caches : Caches) (e : Executed) (place : ℕ) → (e.place == place)
 next-own caches e place own =
     with-own e.place place (command_step (caches e.place) e.command).0 caches own ∙ ap (λ p. (command_step (caches p) e.command).0) (eqb-true e.place place own)
 
--- what is plain along all commands is so at the first, and along the others
+-- a property of all commands holds of the first, and along the others
 plain-first : (caches : Caches) (e : Executed) (es : List Executed) → ((place : ℕ) → ArePlainSteps (caches place) (commands_at place (e ∷ es)))
     → IsPlainStep (caches e.place) e.command.atom e.command.moment e.command.refused
 plain-first caches e es plain =
@@ -204,7 +204,7 @@ act_as_map owner map caches es holds good plain =
     let act : ActTogether owner map caches es = act_together owner map caches es holds good plain in
     grind (arith, own_replies)
 
--- servers that hold nothing yet
+-- empty servers hold what the empty map holds
 pub opening_are_map : (owner : List ℕ → ℕ) (budget limit counter : ℕ) → AreMap owner empty_map (opening_caches budget limit counter)
 opening_are_map owner budget limit counter key = refl
 

@@ -32,23 +32,23 @@ is_of_map (atoms.Update update) = is_unnumbered update
 is_of_map (atoms.Meta (metas.Get key get)) = not get.show.cas
 is_of_map (atoms.Meta (metas.Update update show)) = is_unnumbered update && not show.cas
 
--- the reply to a store that was refused: it is too large, the numbers are used up, or memory is wanted
+-- the reply to a store that was refused: it is too large, the numbers are used up, or memory is missing
 abbrev pub is_refused_store : Reply (List ℕ) → Bool
 is_refused_store (Fault fault) = is_store_fault fault
 is_refused_store other = false
 
--- under other keys are as many items after the step as before it: none was evicted
+-- as many items are stored under other keys after the step as before it: none was evicted
 abbrev pub keeps_others : Option (List ℕ) → Items → Items → Bool
 keeps_others None before after = true
 keeps_others (Some key) before after = length (without key after) == length (without key before)
 
--- a plain step: of a command of the map, that is not refused, and evicts nothing
+-- a plain step: a command of the map, which is not refused and evicts nothing
 pub record IsPlainStep (s : CacheState) (atom : Atom (List ℕ)) (moment : ℕ) (refused : Bool) : Type 0 where
   pub of_map : is_of_map atom ≡ true
   pub answered : is_refused_store (step_of s atom moment refused).1 ≡ false
   pub kept : keeps_others (atom_key atom) s.items (step_of s atom moment refused).0.items ≡ true
 
--- a cache within its bounds, where no flush is to come
+-- a cache within its bounds, with no flush pending
 pub record IsUnflushed (s : CacheState) : Type 0 where
   pub within : IsHeldWithin s.budget s.limit s.items
   pub pending : s.pending ≡ None
@@ -61,17 +61,17 @@ unnumbered body = record body { cas = 0 }
 abbrev pub map_of : Items → OneMap
 map_of items key = option_map unnumbered (body_at key items)
 
--- a cache holds what the map does
+-- a cache holds the map's items
 abbrev pub IsMap : OneMap → CacheState → Type 0
 IsMap map s = (key : List ℕ) → map key ≡ map_of s.items key
 
--- such a step is a step of the map: the reply is the map's, and the cache holds after it what the map does
+-- this step is a step of the map: the reply is the map's, and the cache holds the map's items after it
 pub record IsMapStep (map : OneMap) (s : CacheState) (atom : Atom (List ℕ)) (moment : ℕ) (refused : Bool) : Type 0 where
   pub reply : (step_of s atom moment refused).1 ≡ (map_step map atom moment).1
   pub holds : IsMap (map_step map atom moment).0 (step_of s atom moment refused).0
   pub unflushed : IsUnflushed (step_of s atom moment refused).0
 
--- so is each plain step of the cache, where it holds what the map does
+-- each plain step of a cache that holds the map's items is a step of the map
 abbrev pub StepsAsMap : CacheState → Type 0
 StepsAsMap s =
     (map : OneMap) → IsMap map s → (atom : Atom (List ℕ)) (moment : ℕ) (refused : Bool) → IsPlainStep s atom moment refused → IsMapStep map s atom moment refused
@@ -81,7 +81,7 @@ pub record IsWide (s : CacheState) (key : List ℕ) : Type 0 where
   pub bytes : cost_sum s.items + cost_at (length key) VALUE_LIMIT ≤ s.budget
   pub items : length s.items < s.limit
 
--- where there is such room, a command on the key evicts nothing
+-- if there is such room, a command on the key evicts nothing
 abbrev pub EvictsNothing : CacheState → Type 0
 EvictsNothing s =
     (atom : Atom (List ℕ)) (moment : ℕ) (refused : Bool) (key : List ℕ) → atom_key atom ≡ Some key → IsWide s key

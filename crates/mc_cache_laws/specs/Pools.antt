@@ -1,4 +1,4 @@
--- Several servers, each with a cache of its own: together these are one map, cut by owner. This project's own.
+-- Several servers, each with a cache of its own: together these are one map, split by owner. This project's own.
 use Rattle.std.specs.Prelude.{◌≡◌, ℕ, ◌==◌, List, [], ◌∷◌, Some, None, if◌then◌else◌}
 use Rattle.std.specs.List.{All}
 use Rattle.mc_reply.specs.declared.replies.Reply.{Reply}
@@ -17,7 +17,7 @@ pub record Executed : Type 0 where
 abbrev pub Caches : Type 0
 Caches = ℕ → CacheState
 
--- the same with another cache in one place
+-- the caches, one of them replaced
 abbrev pub caches_with : ℕ → CacheState → Caches → Caches
 caches_with place s caches other = if place == other then s else caches other
 
@@ -35,7 +35,7 @@ abbrev pub pool_replies : Caches → List Executed → List (Reply (List ℕ))
 pool_replies caches [] = []
 pool_replies caches (e ∷ es) = (pool_step caches e).1 ∷ pool_replies (pool_step caches e).0 es
 
--- the same of the map, whatever server executes a command
+-- the map after commands, whatever server executes them, and what each was answered
 abbrev pub map_after : OneMap → List Executed → OneMap
 map_after map [] = map
 map_after map (e ∷ es) = map_after (map_step map e.command.atom e.command.moment).0 es
@@ -60,25 +60,25 @@ ArePlainSteps s [] = Unit {0}
 ArePlainSteps s (command ∷ commands) =
     IsPlainStep s command.atom command.moment command.refused × ArePlainSteps (command_step s command).0 commands
 
--- so it is at every server, and the owner of each key executes the commands on it
+-- the commands of each server are plain steps, and the owner of each key executes the commands on it
 pub record StepPlainly (owner : List ℕ → ℕ) (caches : Caches) (es : List Executed) : Type 0 where
   pub at_owners : All (IsAtOwner owner) es
   pub plain : (place : ℕ) → ArePlainSteps (caches place) (commands_at place es)
 
--- of what all commands were answered, what those of one server were
+-- the replies to the commands of one server, out of the replies to all
 abbrev pub replies_at : ℕ → List Executed → List (Reply (List ℕ)) → List (Reply (List ℕ))
 replies_at place [] rs = []
 replies_at place (e ∷ es) [] = []
 replies_at place (e ∷ es) (r ∷ rs) = if e.place == place then r ∷ replies_at place es rs else replies_at place es rs
 
--- each key's owner holds what the map does under it
+-- each key's owner holds under it what the map holds
 abbrev pub AreMap : (List ℕ → ℕ) → OneMap → Caches → Type 0
 AreMap owner map caches = (key : List ℕ) → map key ≡ map_of (caches (owner key)).items key
 
 abbrev pub AreUnflushed : Caches → Type 0
 AreUnflushed caches = (place : ℕ) → IsUnflushed (caches place)
 
--- servers that hold nothing yet, and the map that does
+-- empty servers, and the empty map
 abbrev pub opening_caches : ℕ → ℕ → ℕ → Caches
 opening_caches budget limit counter place = opening_cache budget limit counter
 
@@ -86,7 +86,7 @@ abbrev pub empty_map : OneMap
 empty_map key = None
 
 -- each command is answered what the map answers, in the order of all and at each server; and after them each key's owner holds
--- what the map does
+-- under it what the map holds
 pub record ActAsMap (owner : List ℕ → ℕ) (map : OneMap) (caches : Caches) (es : List Executed) : Type 0 where
   pub together : pool_replies caches es ≡ map_replies map es
   pub at_servers : (place : ℕ) → replies (caches place) (commands_at place es) ≡ replies_at place es (map_replies map es)

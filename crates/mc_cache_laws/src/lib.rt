@@ -1,10 +1,11 @@
-//! What commands do by the definitions of `mc_cache`: laws of its step, and commands one after another worked out by hand.
+//! Laws of the step that `mc_cache` defines, and sequences of commands worked out by hand.
 //!
 //! No program uses this crate. Its functions do nothing: their contracts are the laws, and the examples that are computed
-//! when the crate is proved. So a definition of `mc_cache` that says something else is refused here. `specs/Laws.antt`,
-//! `specs/GoodCaches.antt`, `specs/MapLaws.antt` and `specs/Pools.antt` have the statements of the laws, `specs/OneMap.antt`
-//! the map that caches are compared with. `specs/Examples.antt` and `specs/MapExamples.antt` have the short forms of the
-//! commands in the examples.
+//! when the crate is proved. So if a definition of `mc_cache` says something else, this crate's proof refuses it.
+//!
+//! Read `specs/Laws.antt`, `specs/GoodCaches.antt`, `specs/MapLaws.antt` and `specs/Pools.antt` for the statements of the
+//! laws, and `specs/OneMap.antt` for the map that caches are compared with. `specs/Examples.antt` and
+//! `specs/MapExamples.antt` have the short forms of the commands in the examples.
 #![tactic(auto)]
 
 mod good_caches;

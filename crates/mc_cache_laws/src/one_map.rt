@@ -6,20 +6,20 @@ ghost use Rattle.mc_cache_laws.specs.OneMap.{OneMap};
 ghost use Rattle.mc_cache_laws.specs.MapLaws.{IsUnflushed, StepsAsMap, EvictsNothing};
 ghost use Rattle.mc_cache_laws.specs.Pools.{Executed, Caches, pool_after, pool_replies, commands_at, replies_at, StepPlainly, AreMap, AreUnflushed, opening_caches, empty_map, ActAsMap};
 
-/// A command that compares no number and shows none, and is no flush, is answered as by a map, where its store is not refused
-/// and nothing is evicted; and the cache then holds what the map does.
+/// A command that compares no number and shows none, and is no flush, is answered as by a map if its store is not refused and
+/// nothing is evicted. The cache then holds the map's items.
 pub fn caches_step_as_maps()
     ensures { (s : CacheState) → IsUnflushed s → StepsAsMap s }
 {}
 
-/// Nothing is evicted where there is room for one more item, however long its value.
+/// Nothing is evicted if there is room for one more item, however long its value.
 pub fn wide_caches_evict_nothing()
     ensures { (s : CacheState) → IsUnflushed s → EvictsNothing s }
 {}
 
-/// Several servers, where the owner of each key executes its commands, act together as one map: what each command is answered
-/// is what the map answers, in the order in which they were executed, whatever server that was. So it is from servers that
-/// hold nothing yet.
+/// Several servers act together as one map if the owner of each key executes its commands. Each command is answered what the
+/// map answers, in the order in which the commands were executed, whatever server executed them. This holds from empty
+/// servers on.
 pub fn pools_act_as_one_map()
     ensures act { (owner : List ℕ → ℕ) → (map : OneMap) → (caches : Caches) → (es : List Executed) → AreMap owner map caches
         → AreUnflushed caches → StepPlainly owner caches es → ActAsMap owner map caches es }

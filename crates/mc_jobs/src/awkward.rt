@@ -1,4 +1,4 @@
-//! What servers and rings are seldom asked, and must bear.
+//! Requests that servers and rings seldom get, and must handle.
 
 use crate::Played;
 use crate::digests::Digest;
@@ -15,7 +15,7 @@ const BUDGET: u64 = 1_000_000_000;
 /// There are 2^`KEY_BITS` keys.
 const KEY_BITS: u32 = 14;
 
-/// How many small requests come in pieces of 1 and of 7 bytes.
+/// How many small requests arrive in pieces of 1 and of 7 bytes.
 const IN_PIECES: u64 = 100_000;
 
 /// How many gets of 1,300 keys there are.
@@ -33,13 +33,13 @@ const EVICTIONS: u64 = 50;
 /// How often a full cache is flushed.
 const FLUSHES: u64 = 20;
 
-/// How many requests come over 1,000 connections.
+/// How many requests arrive over 1,000 connections.
 const OVER_MANY: u64 = 700_000;
 
 /// How many rings of 64 servers are made.
 const RINGS: u64 = 250;
 
-/// The least and the most of what each part has to do, in turn.
+/// Plays each part in turn: the least and the most that a server or a ring gets.
 pub fn play(alloc: Global, random: Random, parts: u64) -> Result<Played, JobError> {
     let parts = parts.max(1);
     let mut random = random;
@@ -104,7 +104,7 @@ fn append_request(
     }
 }
 
-/// Small requests by one byte at a time, and by seven.
+/// Small requests, one byte at a time, and seven at a time.
 fn in_pieces(
     alloc: Global,
     random: &mut Random,
@@ -140,7 +140,7 @@ fn long_gets(
     Ok(served.digest)
 }
 
-/// Sets so many keys.
+/// Sets this number of keys.
 fn fill(
     served: &mut Served,
     random: &mut Random,
@@ -192,7 +192,7 @@ fn append_coded(random: &mut Random, text: &mut Vec<u8>) -> Result<(), AllocErro
     text.extend_from_slice(rest)
 }
 
-/// Gets of keys that are not held, 16 a piece.
+/// Gets of keys that are missing, 16 a piece.
 fn misses(alloc: Global, random: &mut Random, count: u64) -> Result<Digest, JobError> {
     let mut served = Served::new(alloc, BUDGET, 300_000, 1)?;
     let mut text = Vec::new(alloc);
@@ -261,7 +261,7 @@ fn over_many(
     Ok(served.digest)
 }
 
-/// Rings of 63 servers, which one more joins, and the owners of some keys.
+/// Rings of 63 servers, each of which one more joins, and the owners of some keys.
 fn rings(alloc: Global, random: &mut Random, count: u64) -> Result<Digest, JobError> {
     let mut digest = Digest::new();
     let mut key = Vec::new(alloc);

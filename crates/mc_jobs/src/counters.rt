@@ -20,7 +20,7 @@ const KEY_BITS: u32 = 15;
 
 const CLIENTS: u64 = 20;
 
-/// After so many batches a second has passed.
+/// How many batches are played in a second.
 const BATCHES_A_SECOND: u64 = 1_000;
 
 /// Makes all counters, and then plays batches of small commands.
@@ -49,7 +49,7 @@ pub fn play(alloc: Global, random: Random, parts: u64) -> Result<Played, JobErro
     })
 }
 
-/// Makes the counters, and says how many.
+/// Makes the counters, and returns their number.
 fn fill(served: &mut Served, text: &mut Vec<u8>, parts: u64) -> Result<u64, JobError> {
     let count = (1 << KEY_BITS) / parts.max(1);
     for key in 0..count {
@@ -62,7 +62,7 @@ fn fill(served: &mut Served, text: &mut Vec<u8>, parts: u64) -> Result<u64, JobE
     Ok(count)
 }
 
-/// Plays a batch of a client: one in 16 writes back what it has read, one in 8 is quiet. It says how many requests there were.
+/// Plays a batch of a client: one in 16 writes back what it has read, one in 8 is quiet. It returns the number of requests.
 fn play_batch(
     served: &mut Served,
     random: &mut Random,
@@ -116,7 +116,7 @@ fn key_of(random: &mut Random) -> u64 {
     by_rank(random.ranked(KEY_BITS), KEY_BITS)
 }
 
-/// Appends the end of a line, and a block of so many bytes.
+/// Appends the end of a line, and a block of this number of bytes.
 fn append_block(
     random: &mut Random,
     stock: &Stock,
@@ -128,7 +128,7 @@ fn append_block(
     text.extend_from_slice(b"\r\n")
 }
 
-/// Appends so many quiet commands, and one that is answered.
+/// Appends this number of quiet commands, and one that is answered.
 fn append_quiet(random: &mut Random, text: &mut Vec<u8>, count: u64) -> Result<(), AllocError> {
     for _ in 1..count {
         let key = key_of(random);

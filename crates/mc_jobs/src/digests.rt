@@ -1,8 +1,8 @@
-//! A digest of what is answered.
+//! A digest of answers.
 ghost use Rattle.std.specs.Prelude.{◌≤◌, ◌+◌};
 
 /// A digest of texts, in the order in which they are added. Of each text eight words at a time go into eight sums side by side, and these
-/// into eight sums of sums: so it costs little beside what made the text.
+/// into eight sums of sums. So it costs little beside the work that made the text.
 #[derive(Clone, Copy)]
 pub struct Digest {
     value: u64,
@@ -40,7 +40,7 @@ impl Digest {
         self.value = value;
     }
 
-    /// The digest of all that was added.
+    /// The digest of all texts that were added.
     pub fn value(&self) -> u64 {
         self.value
     }

@@ -8,7 +8,7 @@ use thiserror::Error;
 /// Why a job was not played to its end.
 #[derive(Debug, Drop, Error)]
 pub enum JobError {
-    /// No memory.
+    /// Memory was refused.
     #[error("out of memory")]
     Memory,
     /// A call of a server, a proxy or a script was refused.

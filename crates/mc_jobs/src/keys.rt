@@ -1,11 +1,11 @@
-//! Keys and values of real shape.
+//! Keys and values of realistic shape.
 
 use crate::errors::JobError;
 use crate::randoms::Random;
 use itoa::Buffer;
 use std::alloc::{AllocError, Global};
 
-/// What stands in a key before and after its number.
+/// The texts of a key before and after its number.
 const SHAPES: [(&[u8], &[u8]); 8] = [
     (b"app:user:", b":profile"),
     (b"session:", b":9f86d081884c7d65"),
@@ -30,7 +30,7 @@ const LARGE: [usize; 32] = [
     51764, 120_000,
 ];
 
-/// How many bytes values are taken from.
+/// The number of bytes that values are taken from.
 const STOCK: usize = 1_048_576;
 
 /// Appends the key of a number.
@@ -82,15 +82,15 @@ impl Stock {
         Ok(Stock { bytes })
     }
 
-    /// So many bytes from some place on.
+    /// This number of bytes from a random place on.
     pub fn value(&self, random: &mut Random, len: usize) -> &[u8] {
         let from = random.below(STOCK as u64 / 2) as usize;
         let (_, more) = self.bytes.split_at(from.min(self.bytes.len()));
         more.get(..len).unwrap_or_default()
     }
 
-    /// A line, then so many bytes, and the end of their block, from some place on. The line and the end are written there for
-    /// good, so that no byte of the block is copied.
+    /// A line, then this number of bytes, and the end of their block, from a random place on. The line and the end overwrite
+    /// bytes there for good, so that no byte of the block is copied.
     pub fn framed(&mut self, random: &mut Random, line: &[u8], len: usize) -> &[u8] {
         let from = random.below(STOCK as u64 / 4) as usize;
         let size = line.len().saturating_add(len).saturating_add(2);

@@ -12,7 +12,7 @@ const REQUESTS: u64 = 400_000;
 
 const ITEMS: usize = 100_000;
 
-/// The server is full at so many bytes.
+/// The budget of the server in bytes, at which it is full.
 const BUDGET: u64 = 67_108_864;
 
 /// There are 2^`KEY_BITS` keys.

@@ -1,8 +1,8 @@
-//! Plays whole jobs, each of which users wait for, and prints how much was asked and a digest of all that was answered.
+//! Plays whole jobs, each of a kind that users wait for, and prints how much was asked and a digest of all answers.
 //!
-//! `JOB SEED` plays the job of that name at full size, by requests that the seed makes: `pages`, `large`, `counters`, `pool`, `scripts` or
-//! `awkward`. Each number makes other requests of the same kinds and sizes. A tool that tells the time of a process tells what a
-//! job costs. With no argument each job is played at a small part of its size.
+//! `JOB SEED` plays the job of that name at full size, with requests made from the seed: `pages`, `large`, `counters`, `pool`, `scripts`
+//! or `awkward`. Each seed makes other requests of the same kinds and sizes. A tool that times a process measures the cost of a job.
+//! Without arguments each job is played at a small part of its size.
 #![tactic(auto)]
 
 mod awkward;
@@ -26,10 +26,10 @@ use std::env;
 /// The names of all jobs.
 const JOBS: [&str; 6] = ["pages", "large", "counters", "pool", "scripts", "awkward"];
 
-/// Into how many parts the size of a job is divided for a run without arguments.
+/// The number of parts that the size of a job is divided into for a run without arguments.
 const QUICK: u64 = 500;
 
-/// What a job came to: how much was asked, and a digest of all that was answered.
+/// The result of a job: how much was asked, in requests or in events of scripts, and a digest of all answers.
 #[derive(Clone, Copy)]
 pub struct Played {
     pub asked: u64,
@@ -49,7 +49,7 @@ fn main(rt: HostRuntime) -> anyhow::Result<()> {
     run(&rt, job.as_str(), seed, 1)
 }
 
-/// Plays a job at one of so many parts of its size, and prints what it came to.
+/// Plays a job at one of `parts` parts of its size, and prints the result.
 fn run(rt: &HostRuntime, job: &str, seed: u64, parts: u64) -> anyhow::Result<()> {
     let Some(played) = play(rt.alloc(), job, seed, parts)? else {
         bail!("usage: mc_jobs [pages | large | counters | pool | scripts | awkward] [SEED]");
@@ -61,7 +61,7 @@ fn run(rt: &HostRuntime, job: &str, seed: u64, parts: u64) -> anyhow::Result<()>
     Ok(())
 }
 
-/// What a job came to; none where no job has the name.
+/// The result of a job; `None` if no job has the name.
 fn play(alloc: Global, job: &str, seed: u64, parts: u64) -> Result<Option<Played>, JobError> {
     let random = Random::new(seed);
     let played = match job {

@@ -10,7 +10,7 @@ use std::alloc::{AllocError, Global};
 /// How many batches of requests there are, of 1 to 32 requests each.
 const BATCHES: u64 = 190_000;
 
-/// The server is full at so many items.
+/// The most items of the server, at which it is full.
 const ITEMS: usize = 300_000;
 
 const BUDGET: u64 = 1_000_000_000;
@@ -20,7 +20,7 @@ const KEY_BITS: u32 = 20;
 
 const CLIENTS: u64 = 50;
 
-/// After so many batches a second has passed.
+/// How many batches are played in a second.
 const BATCHES_A_SECOND: u64 = 500;
 
 /// Fills a server, and then plays gets and sets of its clients, nine gets to a set, whose keys follow Zipf's law.
@@ -44,7 +44,7 @@ pub fn play(alloc: Global, mut random: Random, parts: u64) -> Result<Played, Job
     })
 }
 
-/// Sets as many keys as the server holds, in pieces of some 50 sets, and says how many.
+/// Sets as many keys as the server stores, in pieces of some 50 sets, and returns their number.
 fn fill(
     served: &mut Served,
     random: &mut Random,
@@ -64,7 +64,7 @@ fn fill(
     Ok(count)
 }
 
-/// Feeds a client's batch, in half of all cases as one piece, else cut anywhere into two.
+/// Feeds a client's batch: in half of all cases as one piece, otherwise cut anywhere into two.
 fn send(
     served: &mut Served,
     random: &mut Random,
@@ -80,7 +80,7 @@ fn send(
     served.hear(client, second)
 }
 
-/// Appends a batch of 1 to 32 requests, and says how many they are. After one get in nine its key is set.
+/// Appends a batch of 1 to 32 requests, and returns their number. After one get in nine its key is set.
 fn append_batch(random: &mut Random, stock: &Stock, text: &mut Vec<u8>) -> Result<u64, AllocError> {
     let count = random.below(32).saturating_add(1);
     let mut sets = 0u64;

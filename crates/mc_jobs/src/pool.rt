@@ -1,4 +1,4 @@
-//! A proxy carries pages' requests to several servers, links as bytes.
+//! A proxy forwards pages' requests to several servers; its links are bytes in memory.
 
 use crate::Played;
 use crate::digests::Digest;
@@ -10,17 +10,18 @@ use mc_proxy::{Emit, LinkTurn, Proxy, Turn};
 use mc_ring::{Address, Ring};
 use std::alloc::{AllocError, Global};
 
-/// How many rounds there are: in each some clients ask, all servers answer, and the clients are answered.
+/// How many rounds there are: in each some clients send requests, all servers answer, and the clients are
+/// answered.
 const ROUNDS: u64 = 42_000;
 
-/// After so many rounds a link is lost, and comes back in the next.
+/// After this number of rounds a link is lost, and it comes up in the next.
 const ROUNDS_A_LOSS: u64 = 1_000;
 
 const SERVERS: u64 = 5;
 
 const CLIENTS: u64 = 50;
 
-/// The most clients that ask in a round.
+/// The most clients that send requests in a round.
 const AT_ONCE: u64 = 8;
 
 /// The bounds of each server's cache.
@@ -31,7 +32,7 @@ const ITEMS: usize = 20_000;
 /// There are 2^`KEY_BITS` keys.
 const KEY_BITS: u32 = 17;
 
-/// A proxy and its servers, and what the clients were answered.
+/// A proxy and its servers, and the answers to the clients.
 #[derive(Drop)]
 struct Pool {
     proxy: Proxy,
@@ -42,7 +43,7 @@ struct Pool {
     digest: Digest,
 }
 
-/// Plays rounds of requests. A link is lost now and then, with what was under way.
+/// Plays rounds of requests. At times a link is lost, with the bytes in flight.
 pub fn play(alloc: Global, random: Random, parts: u64) -> Result<Played, JobError> {
     let mut random = random;
     let mut pool = Pool::new(alloc)?;
@@ -71,7 +72,7 @@ pub fn play(alloc: Global, random: Random, parts: u64) -> Result<Played, JobErro
     })
 }
 
-/// A ring of so many servers.
+/// A ring of this number of servers.
 pub fn ring_of(alloc: Global, servers: u64, first: u64) -> Result<Ring, JobError> {
     let mut addresses = Vec::new(alloc);
     for number in 0..servers {
@@ -130,7 +131,7 @@ impl Pool {
         Ok(())
     }
 
-    /// Carries what is on each link to its server, has it answered, and carries the answers back.
+    /// Moves the bytes of each link to its server, lets the server answer, and moves the answers back.
     fn carry_all(&mut self) -> Result<(), JobError> {
         self.moment = self.moment.saturating_add(1);
         for place in 0..SERVERS as usize {
@@ -175,7 +176,7 @@ impl Pool {
         Ok(())
     }
 
-    /// Answers a client as far as answers are known.
+    /// Answers a client as far as its answers are known.
     fn answer(&mut self, client: u64) -> Result<(), JobError> {
         for _ in 0..u64::MAX {
             match self.proxy.emit(client) {
@@ -191,7 +192,7 @@ impl Pool {
         Ok(())
     }
 
-    /// Loses a link with all that is under way on it, and brings it back.
+    /// Loses a link with all bytes in flight on it, and opens it again.
     fn lose(&mut self, place: usize) -> Result<(), JobError> {
         let lost = self.proxy.lost(place).map_err(|_| JobError::Refused)?;
         self.digest.add(lost.as_slice());
@@ -208,7 +209,7 @@ impl Pool {
     }
 }
 
-/// Appends a batch of 1 to 8 requests, and says how many they are.
+/// Appends a batch of 1 to 8 requests, and returns their number.
 fn append_batch(random: &mut Random, stock: &Stock, text: &mut Vec<u8>) -> Result<u64, AllocError> {
     let count = random.below(8).saturating_add(1);
     for _ in 0..count {
@@ -221,7 +222,7 @@ fn append_batch(random: &mut Random, stock: &Stock, text: &mut Vec<u8>) -> Resul
     Ok(count)
 }
 
-/// Appends a get of so many keys.
+/// Appends a get of this number of keys.
 fn append_get(random: &mut Random, text: &mut Vec<u8>, keys: u64) -> Result<(), AllocError> {
     text.extend_from_slice(b"get")?;
     for _ in 0..keys {

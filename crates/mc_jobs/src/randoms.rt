@@ -1,6 +1,6 @@
-//! Numbers that a seed makes.
+//! Random numbers from a seed.
 
-/// Numbers that look random, of which each seed makes others (splitmix64).
+/// Pseudorandom numbers, different for each seed (splitmix64).
 #[derive(Clone, Copy)]
 pub struct Random {
     state: u64,
@@ -21,17 +21,17 @@ impl Random {
         word ^ word >> 31
     }
 
-    /// The next number, as one of so many from 0 on, of which there are fewer than 2^32.
+    /// The next number, as one of `count` from 0 on, with `count` below 2^32.
     pub fn below(&mut self, count: u64) -> u64 {
         (self.next() >> 32).wrapping_mul(count) >> 32
     }
 
-    /// Whether one of so many chances comes true.
+    /// True once in `count` times on average.
     pub fn one_in(&mut self, count: u64) -> bool {
         self.below(count) == 0
     }
 
-    /// A rank, as one of 2^`bits`, where the chance of a rank is about one part in it: Zipf's law.
+    /// A rank, one of 2^`bits`, whose probability is about one part in it: Zipf's law.
     pub fn ranked(&mut self, bits: u32) -> u64 {
         let word = self.next();
         let size = 1u64 << (word & 0xFFFF_FFFF) % u64::from(bits.max(1)) % 64;

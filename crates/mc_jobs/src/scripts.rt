@@ -12,7 +12,7 @@ use std::alloc::{AllocError, Global};
 /// How many rounds each script has. A round is some 40 events.
 const ROUNDS: u64 = 12_000;
 
-/// The pools that are played: so many servers and clients.
+/// The pools that are played, each by its number of servers and of clients.
 const POOLS: [(u64, u64); 3] = [(3, 8), (5, 30), (8, 100)];
 
 /// There are 2^`KEY_BITS` keys.
@@ -50,7 +50,7 @@ pub fn play(alloc: Global, random: Random, parts: u64) -> Result<Played, JobErro
     })
 }
 
-/// What is printed for a script.
+/// The printed text of a script.
 fn played(alloc: Global, is_checked: bool, script: &[u8]) -> Result<Vec<u8>, JobError> {
     let text = if is_checked {
         account_of_pool_script::<LruStore<FixedHasher>>(alloc, script)
@@ -101,7 +101,7 @@ impl Script {
         Ok(script)
     }
 
-    /// Appends a name, numbers after spaces, and what follows them.
+    /// Appends a name, numbers after spaces, and the text after them.
     fn append_words(
         &mut self,
         name: &[u8],
@@ -118,7 +118,7 @@ impl Script {
         Ok(())
     }
 
-    /// Appends a round: four clients ask, all servers answer, and the four are answered.
+    /// Appends a round: four clients send requests, all servers answer, and the four are answered.
     fn append_round(&mut self, random: &mut Random, stock: &Stock) -> Result<(), AllocError> {
         let first = random.below(self.clients);
         for next in 0..4 {
@@ -138,7 +138,8 @@ impl Script {
         Ok(())
     }
 
-    /// Appends that a server takes what has come to it, answers up to two commands, and its replies are taken.
+    /// Appends the lines by which a server gets its bytes, answers up to two commands, and its replies are
+    /// taken.
     fn append_serving(&mut self, server: u64) -> Result<(), AllocError> {
         let generation = self.generation(server);
         let moment = self.moment;
@@ -154,7 +155,7 @@ impl Script {
         self.generations.get(server as usize).copied().unwrap_or(1)
     }
 
-    /// Appends that a link is lost, its server sees it, and it is back.
+    /// Appends the lines by which a link is lost, its server sees it, and it comes up again.
     fn append_loss(&mut self, random: &mut Random) -> Result<(), AllocError> {
         let server = random.below(self.servers);
         let generation = self.generation(server);
@@ -200,7 +201,7 @@ fn append_get(random: &mut Random, text: &mut Vec<u8>, keys: u64) -> Result<(), 
     text.extend_from_slice(b"\\r\\n\n")
 }
 
-/// Appends a set, whose value is of bytes that need no escape but one in each eight.
+/// Appends a set whose value needs no escape except for one byte in each eight.
 fn append_set(random: &mut Random, stock: &Stock, text: &mut Vec<u8>) -> Result<(), AllocError> {
     let len = small_len(random) / 8 * 8;
     text.extend_from_slice(b"set ")?;

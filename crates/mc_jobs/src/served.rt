@@ -1,4 +1,4 @@
-//! A server, as its program makes it and calls it.
+//! A server, made and called as its program does.
 
 use crate::digests::Digest;
 use crate::errors::JobError;
@@ -17,7 +17,7 @@ const ANSWER: AnswerLimit = AnswerLimit { bytes: 67_108_864 };
 /// A server over a table, with our own hasher.
 pub type Held = Server<TableStore<SecretState>>;
 
-/// A source of always the same bytes, so that each run takes the same steps.
+/// A source that always returns the same bytes, so that each run takes the same steps.
 struct Fixed;
 
 impl RandomSource for Fixed {
@@ -42,7 +42,7 @@ pub fn opened(alloc: Global, budget: u64, items: usize) -> Result<Held, JobError
     Ok(Server::new(alloc, cache))
 }
 
-/// A server and what its clients were answered.
+/// A server and the answers to its clients.
 #[derive(Drop)]
 pub struct Served {
     server: Held,
@@ -52,7 +52,7 @@ pub struct Served {
 }
 
 impl Served {
-    /// A server with so many connections, from number 0 on.
+    /// A server with this number of connections, from number 0 on.
     pub fn new(
         alloc: Global,
         budget: u64,
@@ -70,7 +70,7 @@ impl Served {
         })
     }
 
-    /// Feeds a connection a piece, takes turns until none waits, and takes the answers out.
+    /// Feeds a connection a piece, takes turns until none is pending, and takes the answers.
     pub fn hear(&mut self, number: u64, piece: &[u8]) -> Result<(), JobError> {
         self.server
             .feed(number, piece)
@@ -85,7 +85,7 @@ impl Served {
         Ok(())
     }
 
-    /// The same of one request, whose answer's first line ends with the number that is given; 0 where it ends with none.
+    /// Feeds one request likewise, and returns the number that ends its answer's first line; 0 if it ends with none.
     pub fn hear_number(&mut self, number: u64, piece: &[u8]) -> Result<u64, JobError> {
         self.server
             .feed(number, piece)
@@ -99,7 +99,7 @@ impl Served {
         Ok(value)
     }
 
-    /// Feeds a connection a text in pieces of so many bytes.
+    /// Feeds a connection a text in pieces of this number of bytes.
     pub fn hear_in_pieces(
         &mut self,
         number: u64,
@@ -113,7 +113,7 @@ impl Served {
     }
 }
 
-/// Takes turns of a connection until none waits.
+/// Takes turns of a connection until none is pending.
 pub fn turn_all(server: &mut Held, number: u64, moment: u32) -> Result<(), JobError> {
     for _ in 0..u64::MAX {
         match server.turn_within(number, u64::from(moment), ANSWER) {
@@ -125,7 +125,7 @@ pub fn turn_all(server: &mut Held, number: u64, moment: u32) -> Result<(), JobEr
     Ok(())
 }
 
-/// The number that ends the first line of an answer; 0 where there is none.
+/// The number that ends the first line of an answer; 0 if there is none.
 fn last_number(answer: &[u8]) -> u64 {
     let (line, _) = answer.split_at(answer.iter().position(|byte| *byte == b'\r').unwrap_or(0));
     let number = line.rsplit(|byte| *byte == b' ').next().unwrap_or_default();

@@ -41,7 +41,7 @@ entry_says counter order histories log key h x reply answered =
     let once = h.once became.0 x became.1 in
     ap (λ (e : Entry). e.reply) (sym (same-entry order histories key became.0 x once.0 once.1)) ∙ became.2
 
--- so what its run has says the same
+-- the reply of the command in its run shows the same
 pub run_says : (counter : ℕ) (order : Order) (histories : ℕ → List Entry) (log : Log) (key : List ℕ) → IsLinearizable counter order histories log key
     → (x : Executed order histories key) (done : Done) (reply : AReply (List ℕ)) → Tells order x.place x.entry done → WasAnsweredBy order log (tag_in x.entry) reply
     → spelling_of x.atom done.reply ≡ spelling_of x.atom reply
@@ -49,7 +49,7 @@ run_says counter order histories log key h x done reply tells answered =
     let same : done.atom ≡ x.atom = told-atom order histories key x done tells in
     ap (λ (a : Atom (List ℕ)). spelling_of a done.reply) (sym same) ∙ sym tells.reply ∙ entry_says counter order histories log key h x reply answered
 
--- a `get` that was answered by a hit is one in its run
+-- a `get` that was answered by a hit hits in its run
 pub read_hits : (counter : ℕ) (order : Order) (histories : ℕ → List Entry) (log : Log) (key : List ℕ) → IsLinearizable counter order histories log key
     → (x : Executed order histories key) (done : Done) (at : List ℕ) (touch : Option ℤ) (with_cas : Bool) (flags : ℕ) (number : Option ℕ) (value : List ℕ)
     → Tells order x.place x.entry done → x.atom ≡ atoms.Get at touch with_cas → WasAnsweredBy order log (tag_in x.entry) (Hit flags number value)
@@ -58,7 +58,7 @@ read_hits counter order histories log key h x done at touch with_cas flags numbe
     subst (λ (a : Atom (List ℕ)). spelling_of a done.reply ≡ spelling_of a (Hit flags number value)) gets
     (run_says counter order histories log key h x done (Hit flags number value) tells answered)
 
--- a store that was answered that it is done is so in its run
+-- a store that was answered as done is done in its run
 store_done : (counter : ℕ) (order : Order) (histories : ℕ → List Entry) (log : Log) (key : List ℕ) → IsLinearizable counter order histories log key
     → (x : Executed order histories key) (front back : List Done) (done : Done) (reply : AReply (List ℕ)) (mode : StoreMode) (compare : Option ℕ) (own : List ℕ) (flags : ℕ) (exptime : ℤ)
     (value : List ℕ) → Tells order x.place x.entry done → IsRun counter None (front ++ done ∷ back)
@@ -84,7 +84,7 @@ lived losses counter order texts outs histories log h key x =
     let inside = slice_get_within (histories x.place) x.number x.entry x.at in
     life_of x.place x.number log (omega (arith, many, inside))
 
--- Of two commands in order: they are in one life, or those before the second in its life come after the first.
+-- Two commands in order are in one life, or the commands before the second in its life follow the first.
 pub one_life : (losses : Losses) (counter : ℕ) (order : Order) (texts outs : ℕ → List ℕ) (histories : ℕ → List Entry) (log : Log)
     → IsLinearizablePool losses counter order texts outs histories log → (key : List ℕ) (a b : Executed order histories key) → ComesFirst a b
     → ((b.place ≡ a.place) × AreCut counter order histories key a b)
@@ -109,7 +109,7 @@ one_life losses counter order texts outs histories log pool key a b comes =
           (cases_lt a.number low))
     ]
 
--- so another command between the two in the run comes between them
+-- another command between the two in the run is between them in the key's order
 pub writer_between : (order : Order) (histories : ℕ → List Entry) (key : List ℕ) (a b : Executed order histories key) → b.place ≡ a.place
     → (w : IsWriter order histories key a.place (suc a.number) b.number) → ComesBetween a w.x b
 writer_between order histories key a b same w =
@@ -146,7 +146,7 @@ read_in_life counter order histories log key h write read flags value stores don
       | inr w ↦ inr (w.x, writer_between order histories key write read same w, w.wrote)
     ]
 
--- what a life began with is none, so a hit in it is of a later command
+-- a life begins with no item, so a hit in it is of a later command
 read_after : (counter : ℕ) (order : Order) (histories : ℕ → List Entry) (log : Log) (key : List ℕ) → IsLinearizable counter order histories log key
     → (write read : Executed order histories key) (flags low : ℕ) (value : List ℕ) → IsGet read.atom → (shown_flags : ℕ) (number : Option ℕ) (shown : List ℕ)
     → WasAnsweredBy order log (tag_in read.entry) (Hit shown_flags number shown) → IsCut counter order histories key low read

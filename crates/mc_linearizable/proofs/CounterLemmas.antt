@@ -22,7 +22,7 @@ use Rattle.mc_linearizable.proofs.LifeRuns.{told-atom}
 use Rattle.mc_linearizable.proofs.CutLemmas.{quiet_or_wrote}
 use Rattle.mc_linearizable.proofs.ClientLemmas.{one_life, run_says, writer_between}
 
--- a count that was answered by a number has it in its run
+-- a count that was answered by a number shows it in its run
 record IsCount (order : Order) (histories : ℕ → List Entry) (key : List ℕ) (x : Executed order histories key) (done : Done) (counting : Counting) (number : ℕ) : Type 0 where
   pub own : List ℕ
   pub counts : done.atom ≡ atoms.Update (Count own counting)

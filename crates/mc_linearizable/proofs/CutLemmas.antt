@@ -22,7 +22,7 @@ among-low order histories key place low high number (x ∷ xs) rising (inr later
     let past = among-low order histories key place (suc x.number) high number xs rising.3 later in
     omega (arith, rising.1, past)
 
--- commands and what is told of them, apart at one
+-- commands and their records, split at one
 record IsSplit (order : Order) (histories : ℕ → List Entry) (key : List ℕ) (place low high number : ℕ) (xs : List (Executed order histories key)) (run : List Done) : Type 0 where
   pub front : List (Executed order histories key)
   pub x : Executed order histories key
@@ -41,7 +41,7 @@ record IsSplit (order : Order) (histories : ℕ → List Entry) (key : List ℕ)
   pub earlier : (n : ℕ) → n < number → IsAmong n xs → IsAmong n front
   pub later : (n : ℕ) → number < n → IsAmong n xs → IsAmong n back
 
--- at the first
+-- the split at the first command
 split_here : (order : Order) (histories : ℕ → List Entry) (key : List ℕ) (place low high number : ℕ) (x : Executed order histories key) (xs : List (Executed order histories key))
     (done : Done) (run : List Done) → AreRising place low high (x ∷ xs) → AreTold order (x ∷ xs) (done ∷ run) → number ≡ x.number
     → IsSplit order histories key place low high number (x ∷ xs) (done ∷ run)
@@ -75,7 +75,7 @@ split_here order histories key place low high number x xs done run rising told i
     all n more (inl same) = absurd (omega (arith, more, same, is))
     all n more (inr past) = past
 
--- at a later one
+-- the split at a later command
 split_later : (order : Order) (histories : ℕ → List Entry) (key : List ℕ) (place low high number : ℕ) (x : Executed order histories key) (xs : List (Executed order histories key))
     (done : Done) (run : List Done) → AreRising place low high (x ∷ xs) → AreTold order (x ∷ xs) (done ∷ run) → x.number < number
     → IsSplit order histories key place (suc x.number) high number xs run → IsSplit order histories key place low high number (x ∷ xs) (done ∷ run)
@@ -144,7 +144,7 @@ cut counter order histories log key life a h inside =
       told = s.front_told;
     }
 
--- and at two
+-- the run of a life, cut at two of its commands
 pub record AreCut (counter : ℕ) (order : Order) (histories : ℕ → List Entry) (key : List ℕ) (a b : Executed order histories key) : Type 0 where
   pub commands : List (Executed order histories key)
   pub front : List Done
@@ -189,7 +189,7 @@ cut_two counter order histories log key life a b h same inside also less =
         subst (λ (p : ℕ). (taken_before p life log ≤ x.number) × (x.number < taken_before p (suc life) log)) (sym at)
         (omega (arith, low_is, more), omega (arith, high_is, few))
 
--- of commands of a run one may have written, or none
+-- one of the commands of a run may have written, or none may
 pub record IsWriter (order : Order) (histories : ℕ → List Entry) (key : List ℕ) (place low high : ℕ) : Type 0 where
   pub x : Executed order histories key
   pub wrote : MayHaveWritten x
@@ -222,7 +222,7 @@ quiet_or_wrote order histories key place low high (x ∷ xs) (done ∷ run) risi
       ]
     ]) refl
 
--- where none has written, none has in the run
+-- if no command has written, none has in the run
 pub told_has : (order : Order) (histories : ℕ → List Entry) (key : List ℕ) (x : Executed order histories key) (done : Done) → Tells order x.place x.entry done
     → has_written done.atom done.reply ≡ true → HasWritten x
 told_has order histories key x done tells wrote =
@@ -243,7 +243,7 @@ none_wrote order histories key place low high (x ∷ xs) (done ∷ run) rising t
   none_wrote order histories key place (suc x.number) high xs run rising.3 told.1 (λ y at from to. never y at (omega (arith, from, rising.1)) to),
 )
 
--- of commands that have not written each has not
+-- if none of some commands has written, each of them has not
 told_has_not : (order : Order) (histories : ℕ → List Entry) (key : List ℕ) (x : Executed order histories key) (done : Done) → Tells order x.place x.entry done
     → has_written done.atom done.reply ≡ false → HasNotWritten x
 told_has_not order histories key x done tells quiet =

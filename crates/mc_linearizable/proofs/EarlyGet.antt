@@ -39,7 +39,7 @@ early_text = codes "set k 0 0 1\r\na\r\nget k\r\nset k 0 0 1\r\nb\r\n"
 abbrev a_hit : AReply (List ℕ)
 a_hit = Hit 0 None (codes "a")
 
--- what was taken
+-- the requests that were taken
 abbrev first : AskedFor
 first = asked_of one_server 0 (store_asked (codes "a")) (outcomes.Reply Stored)
 
@@ -56,7 +56,7 @@ text_read : requests_of (codes "set k 0 0 1\r\na\r\nget k\r\nset k 0 0 1\r\nb\r\
 unfolding words line_end first_line name_of next_request requests_within requests_of
 text_read = refl
 
--- what the server took, on the second generation of its link
+-- the entries of the server, on the second generation of its link
 abbrev stored_a : Entry
 stored_a = entry_of 0 (store_of (codes "a")) Stored
 
@@ -186,7 +186,7 @@ not_with (Some number) same =
 never_shown : ShowsValue get_key a_hit 0 (codes "b") → ⊥
 never_shown shows = not_with shows.0 shows.1
 
--- and no command comes after the store and before it
+-- no command is after the store and before the get
 never_between : (x : Executed early_order (two_histories early_history []) (codes "k")) → ComesFirst the_store x → ComesFirst x the_get → ⊥
 never_between x (inl low) (inl high) = let below : x.place < 0 = high in omega (arith, below)
 never_between x (inl low) (inr high) = let at : x.place ≡ 0 = high.0 in let above : 0 < x.place = low in omega (arith, at, above)

@@ -34,7 +34,7 @@ abbrev has_w : List ℕ → Bool
 has_w [] = false
 has_w (b ∷ bs) = if b == 13 then false else if b == 87 then true else has_w bs
 
--- a number has none
+-- a number has no W
 digit_passes : (d : ℕ) (rest : Bool) → 47 < d → d < 58 → (if d == 13 then false else if d == 87 then true else rest) ≡ rest
 digit_passes d rest low high = grind (arith, nat_tests)
 
@@ -52,7 +52,7 @@ left_passes None rest = refl
 left_passes (Some None) rest = refl
 left_passes (Some (Some seconds)) rest = digits_pass (decimal seconds) rest (decimal_digits seconds)
 
--- marks show it
+-- marks show W
 marks_show : (marks : Marks) (rest : List ℕ) → has_w (marks_onto marks (13 ∷ rest)) ≡ is_win marks
 marks_show Plain rest = refl
 marks_show Won rest = refl
@@ -110,7 +110,7 @@ win_read (atoms.Update update) own reply same won = absurd cc
 win_read (atoms.Meta (metas.Update update show)) own reply same won = absurd cc
 win_read (atoms.Meta (metas.Get key get)) own reply same won = win_same key get own reply same ∙ won
 
--- a client that was shown W is so in its run
+-- a client that was shown W is shown it in its run
 pub run_wins : (counter : ℕ) (order : Order) (histories : ℕ → List Entry) (log : Log) (key : List ℕ) → IsLinearizable counter order histories log key
     → (x : Executed order histories key) (done : Done) → Tells order x.place x.entry done → WasShownWin log x → has_won done.atom done.reply ≡ true
 run_wins counter order histories log key h x done tells wins =

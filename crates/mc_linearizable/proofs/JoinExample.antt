@@ -64,7 +64,7 @@ text_read : requests_of (codes "set k 0 0 1\r\na\r\ngets k\r\nget k\r\nset k 0 0
 unfolding words line_end first_line name_of next_request requests_within requests_of
 text_read = refl
 
--- what was taken: the last two requests were routed by the ring with the server that joined
+-- the requests that were taken: the last two were routed by the ring with the server that joined
 abbrev next : RingState
 next = joined_ring.0
 
@@ -92,7 +92,7 @@ fifth = asked_of next 4 cas_asked (outcomes.Reply Stored)
 abbrev join_order : Order
 join_order = first ∷ second ∷ third ∷ fourth ∷ fifth ∷ []
 
--- what the servers took
+-- the entries of the servers
 abbrev stored_a : Entry
 stored_a = entry_of 0 (store_of (codes "a")) Stored
 
@@ -223,7 +223,7 @@ put_out : outs_of Told join_order join_log 0 ≡ codes "STORED\r\nVALUE k 0 1 1\
 unfolding digits
 put_out = refl
 
--- so it is linearizable
+-- the account is linearizable
 bounds : IsWithinBounds 1000 10
 bounds = record { some_bytes = omega arith; not_too_many_bytes = omega arith; some_items = omega arith; not_too_many_items = omega arith }
 

@@ -57,7 +57,7 @@ neither_before p q first second =
     let places : p.place ≡ q.place = grind (arith, nat_tests) in
     same_point p q points places
 
--- a point that is put among points that rise
+-- a point that is inserted among points that rise
 put_after : (r p : Point) (ps : List Point) → is_before r p ≡ true → AllByRecursion (λ (q : Point). is_before r q ≡ true) ps
     → AllByRecursion (λ (q : Point). is_before r q ≡ true) (put p ps)
 put_after r p [] before all = (before, tt)
@@ -95,7 +95,7 @@ rising_by [] rises = λ i j d less inside. absurd (omega (arith, less, inside))
 rising_by (p ∷ ps) rises =
     AllPairs-cons (λ (x y : Point). is_before x y ≡ true) p ps (All-from_recursion (λ (x : Point). is_before p x ≡ true) ps rises.0) (rising_by ps rises.1)
 
--- its members
+-- the members of the points with one inserted
 in_put : (x p : Point) (ps : List Point) → (p ≡ x) ⊎ Member x ps → Member x (put p ps)
 in_put x p [] there = there
 in_put x p (q ∷ qs) there =
@@ -182,7 +182,7 @@ past_there =
     (member_later past_point (pairs_at 1 (first_points (codes "b:2") 39)) (pairs_at 1 (points_of_digest (md5 (label (codes "b:2") 39))))
     (subst (λ (ns : List ℕ). Member past_point (pairs_at 1 ns)) (sym last_digest) (inr (inl refl))))
 
--- so that point, or another of the server, holds the hash
+-- that point, or another of the server, holds the hash
 place_of : (place : ℕ) (points : List ℕ) (m : Point) → Member m (pairs_at place points) → m.place ≡ place
 place_of place [] m there = absurd there
 place_of place (n ∷ ns) m (inl here) = sym (ap (λ (p : Point). p.place) here)

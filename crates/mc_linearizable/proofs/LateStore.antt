@@ -1,4 +1,5 @@
--- An account in which a client is told that a store is lost, stores another value, and gets the first: the lost store was executed late.
+-- An account in which a client is answered that a store is lost, stores another value, and gets the first: the lost store was executed
+-- late.
 use Rattle.std.proofs.Common.{◌≡◌, ℕ, ◌<◌, ◌==◌, inl, inr, Bool, true, false, if◌then◌else◌, List, [], ◌∷◌, ◌++◌, None, Some, refl, sym, ap, arith}
 use Rattle.std.specs.Prelude.{codes}
 use Rattle.std.specs.Fmt.{digits}
@@ -38,7 +39,7 @@ text_read : requests_of (codes "set k 0 0 1\r\na\r\nset k 0 0 1\r\nb\r\nget k\r\
 unfolding words line_end first_line name_of next_request requests_within requests_of
 text_read = refl
 
--- what was taken: the first command was lost
+-- the requests that were taken: the first command was lost
 abbrev first : AskedFor
 first = asked_of one_server 0 (store_asked (codes "a")) outcomes.Lost
 
@@ -51,7 +52,7 @@ third = asked_of one_server 2 get_asked (outcomes.Reply a_hit)
 abbrev late_order : Order
 late_order = first ∷ second ∷ third ∷ []
 
--- what the server took: the second command, then the first, on its lost generation, then the third
+-- the entries of the server: the second command, then the first, on its lost generation, then the third
 abbrev stored_b : Entry
 stored_b = entry_of 1 (store_of (codes "b")) Stored
 
@@ -148,7 +149,7 @@ late_small = record {
 late_accounts : Accounts Told one_server a_cache late_order (first_text late_text) (outs_of Told late_order late_log) (two_histories late_history []) late_log
 late_accounts = small_accounts Told one_server a_cache late_order late_text late_history [] late_log late_small
 
--- what the client is answered
+-- the answers to the client
 put_out : outs_of Told late_order late_log 0 ≡ codes "SERVER_ERROR link lost\r\nSTORED\r\nVALUE k 0 1\r\na\r\nEND\r\n"
 unfolding digits
 put_out = refl

@@ -23,7 +23,7 @@ use Rattle.mc_linearizable.specs.Clients.{AreRising, AreTold, HasRun, IsAmong, I
 same_atom : (order : Order) (tag : Tag) (p q : ℕ) (a b : Atom (List ℕ)) → command_at order tag ≡ Some (to_place p a) → command_at order tag ≡ Some (to_place q b) → a ≡ b
 same_atom order tag p q a b first second = ap (λ (c : Routed). c.atom) (same_Some (to_place p a) (to_place q b) (sym first ∙ second))
 
--- what is told of a command has its atom
+-- the record of a command has its atom
 pub told-atom : (order : Order) (histories : ℕ → List Entry) (key : List ℕ) (x : Executed order histories key) (done : Done) → Tells order x.place x.entry done → done.atom ≡ x.atom
 told-atom order histories key x done tells = same_atom order (tag_in x.entry) x.place x.place done.atom x.atom tells.command x.command
 
@@ -40,7 +40,7 @@ same-told order histories key x y done place number tells =
     let same : x.entry ≡ y.entry = same-entry order histories key x y place number in
     subst (λ (p : ℕ). Tells order p y.entry done) place (subst (λ (e : Entry). Tells order x.place e done) same tells)
 
--- those of some entries, by what is told of them
+-- the commands of some entries, by their records
 record AreMade (order : Order) (histories : ℕ → List Entry) (key : List ℕ) (place low high : ℕ) (entries : List Entry) (run : List Done) : Type 0 where
   commands : List (Executed order histories key)
   rising : AreRising place low high commands
@@ -62,7 +62,7 @@ more_rising : (order : Order) (histories : ℕ → List Entry) (key : List ℕ) 
 more_rising order histories key place low high [] rising = tt
 more_rising order histories key place low high (x ∷ xs) rising = (rising.0, omega (arith, rising.1), rising.2, rising.3)
 
--- an entry on the key is one more command, and another is none
+-- an entry on the key adds a command, and another adds none
 made_on : (order : Order) (histories : ℕ → List Entry) (key : List ℕ) (place low high : ℕ) (e : Entry) (es : List Entry) (done : Done) (run : List Done)
     → Tells order place e done → slice_get (histories place) low ≡ Some e → low < high → is_on key done.atom ≡ true
     → AreMade order histories key place (suc low) high es run → AreMade order histories key place low high (e ∷ es) (done ∷ run)
@@ -121,7 +121,7 @@ make order histories key place low high (e ∷ es) (done ∷ all) tell there =
       | false ↦ λ off. made_off order histories key place low high e es done (on_key key all) tell.0 off rest
     ]) refl
 
--- what is in a front
+-- an element of a front is one of the list
 in_front : {X : Type 0} (n : ℕ) (xs : List X) (k : ℕ) (x : X) → slice_get (take n xs) k ≡ Some x → (k < n) × (slice_get xs k ≡ Some x)
 in_front zero [] zero x at = absurd (none-some x at)
 in_front zero [] (suc k) x at = absurd (none-some x at)

@@ -62,7 +62,7 @@ keeps_time losses ring opening order texts outs histories log h good key a b rep
     (cases_lt a.number b.number))
     (cases_lt a.place b.place)
 
--- what became of a command on the key
+-- the outcome of a command on the key
 became_by : (order : Order) (histories : ℕ → List Entry) (log : Log) (key : List ℕ) (tag : Tag) (place : ℕ) (atom : Atom (List ℕ)) (outcome : Outcome)
     → command_at order tag ≡ Some (to_place place atom) → is_on key atom ≡ true → IsToldBy histories log tag (to_place place atom) outcome
     → Became order histories log key tag place atom outcome

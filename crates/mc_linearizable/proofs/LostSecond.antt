@@ -1,4 +1,5 @@
--- An account in which a client sets `a` and `b`, and does not wait for the first answer. The second command was lost, and comes first.
+-- An account in which a client sets `a` and `b`, and does not wait for the first answer. The second command was lost, and is first in
+-- the key's order.
 use Rattle.std.proofs.Common.{◌≡◌, ℕ, ◌<◌, ◌==◌, inl, inr, Bool, true, false, if◌then◌else◌, List, [], ◌∷◌, ◌++◌, refl, sym, ap, arith}
 use Rattle.std.specs.Prelude.{codes}
 use Rattle.std.proofs.lemmas.Bool.{false≢true, true≢false}
@@ -34,7 +35,7 @@ text_read : requests_of (codes "set k 0 0 1\r\na\r\nset k 0 0 1\r\nb\r\n") ≡ s
 unfolding words line_end first_line name_of next_request requests_within requests_of
 text_read = refl
 
--- what was taken: the second command was lost
+-- the requests that were taken: the second command was lost
 abbrev first : AskedFor
 first = asked_of one_server 0 (store_asked (codes "a")) (outcomes.Reply Stored)
 
@@ -44,7 +45,7 @@ second = asked_of one_server 1 (store_asked (codes "b")) outcomes.Lost
 abbrev two_order : Order
 two_order = first ∷ second ∷ []
 
--- what the server took: the second command, then the first
+-- the entries of the server: the second command, then the first
 abbrev stored_b : Entry
 stored_b = entry_of 1 (store_of (codes "b")) Stored
 

@@ -62,7 +62,7 @@ ring_goes key old new (Joined server address ∷ es) is owned =
     record { owned = rest.owned; higher = omega (arith, low, high) }
 ring_goes key old new (Restarted server ∷ es) is owned = ring_goes key old new es is owned
 
--- the ring after the first of a log
+-- the ring after a front of a log
 ring_between : (old new : RingState) (front rest : Log) → IsRingAfter old (front ++ rest) new → (now : RingState) × IsRingAfter old front now × IsRingAfter now rest new
 ring_between old new [] rest is = (old, refl, is)
 ring_between old new (Happened event ∷ es) rest is = ring_between old new es rest is
@@ -71,7 +71,7 @@ ring_between old new (Joined server address ∷ es) rest is =
     (later.0, (is.0, is.1, later.1), later.2)
 ring_between old new (Restarted server ∷ es) rest is = ring_between old new es rest is
 
--- a command on a key has it
+-- a command on a key has that key
 pub has_key : (key : List ℕ) (atom : Atom (List ℕ)) → is_on key atom ≡ true → atom_key atom ≡ Some key
 has_key key atom on =
     (elim (atom_key atom) as (λ (own : Option (List ℕ)). option_map_or (λ text. bytes_eq text key) own false ≡ true → own ≡ Some key) [

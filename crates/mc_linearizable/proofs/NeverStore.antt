@@ -1,4 +1,4 @@
--- An account in which a client is told that a store is lost, and no server executed it.
+-- An account in which a client is answered that a store is lost, and no server executed the store.
 use Rattle.std.proofs.Common.{◌≡◌, ℕ, ◌==◌, inr, Bool, true, false, if◌then◌else◌, List, [], ◌∷◌, refl, arith}
 use Rattle.std.specs.Prelude.{codes}
 use Rattle.std.proofs.lemmas.List.Elements.{All-cons, All-nil}
@@ -27,7 +27,7 @@ text_read : requests_of (codes "set k 0 0 1\r\na\r\n") ≡ store_asked (codes "a
 unfolding words line_end first_line name_of next_request requests_within requests_of
 text_read = refl
 
--- it was taken, its link was lost, and its client was answered
+-- the request was taken, its link was lost, and its client was answered
 abbrev only : AskedFor
 only = asked_of one_server 0 (store_asked (codes "a")) outcomes.Lost
 

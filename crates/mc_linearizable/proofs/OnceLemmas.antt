@@ -20,7 +20,7 @@ use Rattle.mc_pool_laws.specs.Told.{HasEntry, HasOneEntry}
 use Rattle.mc_pool_laws.proofs.LossLemmas.{only_entry}
 use Rattle.mc_pool_laws.proofs.SentLemmas.{entry_named, sent_command}
 
--- two tags are one, or differ
+-- two tags are equal, or differ
 one_tag : (a b : Tag) → (a ≡ b) ⊎ (a ≢ b)
 one_tag a b =
     ⊎_elim
@@ -54,7 +54,7 @@ entry_or_none (x ∷ xs) tag =
     ])
     (one_tag (tag_in x) tag)
 
--- the history of another server has none
+-- the history of another server has no entry of it
 none_elsewhere : (losses : Losses) (ring : RingState) (opening : CacheState) (order : Order) (texts outs : ℕ → List ℕ) (histories : ℕ → List Entry) (log : Log)
     → Accounts losses ring opening order texts outs histories log → (tag : Tag) (command : Routed) → command_at order tag ≡ Some command
     → HasNone (histories command.server) tag → (place : ℕ) → HasNone (histories place) tag

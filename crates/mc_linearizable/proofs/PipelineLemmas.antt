@@ -20,7 +20,7 @@ use Rattle.mc_pool_laws.proofs.SentLemmas.{in_request}
 use Rattle.mc_linearizable.specs.Linearizable.{ComesFirst, Executed, WasReplied}
 use Rattle.mc_linearizable.proofs.MoveLemmas.{has_key, taken_lower}
 
--- before an event of a kind there are as many as its number
+-- the number of events of a kind before the one of a number is that number
 number_at : (is : Logged → Bool) (number : ℕ) (log : Log) → number < number_of is log → number_of is (before is number log) ≡ number
 number_at is number [] inside = absurd (omega (arith, inside))
 number_at is zero (x ∷ xs) inside =
@@ -36,7 +36,7 @@ number_at is (suc number) (x ∷ xs) inside =
       | false ↦ λ some. number_at is (suc number) xs some
     ]) inside
 
--- of two tags the first is not before the second, and the second before the first
+-- two tags are not each before the other
 never_both : (a b : Tag) → IsBefore a b → IsBefore b a → ⊥
 never_both a b (inl less) (inl more) = omega (arith, less, more)
 never_both a b (inl less) (inr more) = (let same = more.0 in omega (arith, less, same))

@@ -40,11 +40,11 @@ use Rattle.mc_linearizable.proofs.CutLemmas.{cut, quiet_or_wrote}
 use Rattle.mc_linearizable.proofs.ClientLemmas.{lived, one_life, read_hits, run_says, writer_between}
 use Rattle.mc_linearizable.proofs.FillLemmas.{win_same}
 
--- what a command leaves, and its reply
+-- the item that a command leaves, and its reply
 abbrev Turned : Type 0
 Turned = Option Body × AReply (List ℕ)
 
--- what a reply to `mg` shows
+-- the value that a reply to `mg` shows
 abbrev value_in : AReply (List ℕ) → Option (List ℕ)
 value_in (Meta shown value) = value
 value_in reply = None
@@ -78,7 +78,7 @@ none_made (Some create) (Err fault) get moment shown value is says found = absur
 none_made (Some create) (Ok number) get moment shown value is says (inl none) = absurd cc
 none_made (Some create) (Ok number) get moment shown value is says (inr lost) = true≢false (sym (ap (λ (r : AReply (List ℕ)). wins_in r) says) ∙ lost)
 
--- another value that `mg` shows was held: a `get` in its place would hit
+-- another value that `mg` shows was stored: a `get` in its place would hit
 found_held : (given : Given) (held : Option Body) (get : MetaGet) (moment : ℕ) (shown : Shown) (value : List ℕ) → Meta shown (Some value) ≡ (meta_get_as given held get moment).1
     → (get.create ≡ None) ⊎ (is_win shown.marks ≡ false)
     → (flags : ℕ) × (Hit flags None value ≡ (get_as held None false moment).1) × IfSome shown.flags (λ (own : ℕ). own ≡ flags)
@@ -184,7 +184,7 @@ seen_mg counter order histories log key h x front back done at get shown value t
       has = subst (λ (r : AReply (List ℕ)). HasContent r other.0 own.value) (sym own.is) (other.2, refl);
     }
 
--- which hit it is
+-- the command and the reply of a hit
 record IsGetHit (atom : Atom (List ℕ)) (hit : AReply (List ℕ)) : Type 0 where
   pub key : List ℕ
   pub touch : Option ℤ
@@ -301,7 +301,7 @@ hit_shows losses counter order texts outs histories log pool key store read flag
           absurd (quiet-misses c.front s.back s.read counter s.key s.touch s.with_cas s.flags s.number s.value s.run quiet s.reads s.hits))
     ]
 
--- nothing is held when a life begins, so before a hit a command may have written
+-- nothing is stored when a life begins, so before a hit a command may have written
 pub hit_has_store : (losses : Losses) (counter : ℕ) (order : Order) (texts outs : ℕ → List ℕ) (histories : ℕ → List Entry) (log : Log)
     → IsLinearizablePool losses counter order texts outs histories log → (key : List ℕ) → AHitHasAWriter order histories log key
 hit_has_store losses counter order texts outs histories log pool key read hit by answered =

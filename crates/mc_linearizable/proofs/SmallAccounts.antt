@@ -1,5 +1,5 @@
--- Small accounts: of one client, whose requests are of one command each, and of two servers at most. What is to be shown of each request and each
--- entry is told in sequence.
+-- Small accounts: of one client, whose requests have one command each, and of two servers at most. What must be shown of each request and each
+-- entry is listed in sequence.
 use Rattle.std.proofs.Common.{◌≡◌, ◌∙◌, ℕ, zero, suc, ◌+◌, ◌<◌, ◌≤◌, ◌==◌, ◌⊎◌, inl, inr, Bool, true, false, if◌then◌else◌, List, [], ◌∷◌, ◌++◌, length, map, take, drop, append-nil, All, None, Some, slice_get, refl, sym, ap, ap₂, subst, arith}
 use Rattle.std.specs.Prelude.{codes, pos}
 use Rattle.std.specs.List.{AllByRecursion, list_all}
@@ -43,7 +43,7 @@ use Rattle.mc_pool_laws.proofs.NeedLemmas.{none_there, one_here, one_server, out
 use Rattle.mc_pool_laws.proofs.OrderExample.{tag_is}
 use Rattle.mc_pool_laws.proofs.SentLemmas.{in_request}
 
--- commands on key `k`, what was asked, and what a server took
+-- commands on key `k`, the requests, and the entries of a server
 abbrev pub store_of : List ℕ → Atom (List ℕ)
 store_of value = atoms.Update (Store Set None (codes "k") 0 (pos 0) value)
 
@@ -56,7 +56,7 @@ asked_of ring request what outcome = record { session = 0; request = request; wh
 abbrev pub entry_of : ℕ → Atom (List ℕ) → AReply (List ℕ) → Entry
 entry_of request atom reply = record { client = 0; request = request; atom = 0; moment = 5; refused = false; reply = spelling_of atom reply }
 
--- whether this puts out an answer, all of which are of client 0, by whether that is the client
+-- whether this emits an answer, all of which are for client 0, by whether that is the client
 abbrev pub puts_if : Bool → Logged → Bool
 puts_if own (Happened (Emit of)) = own
 puts_if own other = false
@@ -85,7 +85,7 @@ first_text text client = if 0 == client then text else []
 abbrev pub two_histories : List Entry → List Entry → ℕ → List Entry
 two_histories first second place = if 0 == place then first else if 1 == place then second else []
 
--- each of a list is so, by its number, the first of them being that of a number
+-- this holds of each element of a list, by its number, the first of which has this number
 abbrev pub Each : {X : Type 0} → (ℕ → X → Type 0) → ℕ → List X → Type 0
 Each P n [] = Unit {0}
 Each P n (x ∷ xs) = P n x × Each P (suc n) xs
@@ -105,12 +105,12 @@ got_within [] k less = absurd (omega (arith, less))
 got_within (x ∷ xs) zero less = (x, refl)
 got_within (x ∷ xs) (suc k) less = got_within xs k (omega (arith, less))
 
--- what is there for one number alone
+-- an element that exists for one number alone
 there_if : {X : Type 0} (v : Bool) (xs : List X) (k : ℕ) (x : X) → slice_get (if v then xs else []) k ≡ Some x → (v ≡ true) × (slice_get xs k ≡ Some x)
 there_if true xs k x at = (refl, at)
 there_if false xs k x at = absurd (none_there k x at)
 
--- what is so of two places, and of each other, is so of each
+-- a property of two places, and of each other, is one of all places
 by_place : (P : ℕ → Type 0) → P 0 → P 1 → ((place : ℕ) → (0 == place) ≡ false → (1 == place) ≡ false → P place) → (place : ℕ) → P place
 by_place P first second other place =
     (elim (0 == place) as (λ v. (0 == place) ≡ v → P place) [
@@ -138,7 +138,7 @@ IsPlacedAt order log place k e =
     WasTaken (tag_in e) (before (serves place) k log)
     × ((reply : AReply (List ℕ)) → outcome_at order (tag_in e) ≡ Some (outcomes.Reply reply) → NotAnswered (tag_in e) (before (serves place) k log))
 
--- those whose replies were taken are in the order of their requests
+-- the entries whose replies were taken are in the order of their requests
 abbrev pub AreRisen : Order → ℕ → List Entry → Type 0
 AreRisen order low [] = Unit {0}
 AreRisen order low (e ∷ es) =
@@ -175,7 +175,7 @@ risen_two order low (x ∷ xs) (inl gone) (suc j) (suc k) d e r q at also less f
 risen_two order low (x ∷ xs) (inr next) (suc j) (suc k) d e r q at also less first second =
     risen_two order (suc x.request) xs next.1 j k d e r q at also (omega (arith, less)) first second
 
--- what is known of a request: its one command, and what became of it
+-- what is known of a request: its one command, and the outcome of that
 pub record IsKnown (histories : ℕ → List Entry) (log : Log) (k : ℕ) (x : AskedFor) : Type 0 where
   pub place : ℕ
   pub atom : Atom (List ℕ)
@@ -184,7 +184,7 @@ pub record IsKnown (histories : ℕ → List Entry) (log : Log) (k : ℕ) (x : A
   pub became : x.outcomes ≡ outcome ∷ []
   pub told : IsToldBy histories log (tag_of 0 k 0) (to_place place atom) outcome
 
--- by the entry of its command, if its reply was taken
+-- the entry of its command gives the outcome, if its reply was taken
 pub replied_as : (histories : ℕ → List Entry) (log : Log) (k : ℕ) (x : AskedFor) (place : ℕ) (atom : Atom (List ℕ)) (reply : AReply (List ℕ)) (n : ℕ) (e : Entry)
     → route_of_taken x.ring x.what ≡ to_place place atom ∷ [] → x.outcomes ≡ outcomes.Reply reply ∷ [] → slice_get (histories place) n ≡ Some e
     → tag_in e ≡ tag_of 0 k 0 → e.reply ≡ spelling_of atom reply → IsKnown histories log k x
@@ -205,7 +205,7 @@ pub record IsSmall (ring : RingState) (opening : CacheState) (order : Order) (te
   pub answers : (client : ℕ) → number_of (puts client) log ≡ (if 0 == client then length order else 0)
   pub first_legal : (life : ℕ) → IsLegal order 0 opening (in_life 0 life log first)
   pub second_legal : (life : ℕ) → IsLegal order 1 opening (in_life 1 life log second)
-  -- at which place an entry is, and as which one
+  -- the place of an entry, and its index there
   pub places : ℕ → ℕ
   pub numbers : ℕ → ℕ
   pub first_sites : Each (λ (k : ℕ) (e : Entry). (places e.request ≡ 0) × (numbers e.request ≡ k)) 0 first
@@ -220,7 +220,7 @@ pub record IsSmall (ring : RingState) (opening : CacheState) (order : Order) (te
   pub second_moments : map (λ (e : Entry). e.moment) second ≡ moments_of 1 log
   pub no_moments : (place : ℕ) → (0 == place) ≡ false → (1 == place) ≡ false → [] ≡ moments_of place log
 
--- what a client has of the order
+-- the requests of a client in the order
 nothing_by : (v : Bool) → ◌≡◌ {A = Order} [] (if v then [] else [])
 nothing_by true = refl
 nothing_by false = refl
@@ -265,7 +265,7 @@ nothing_left zero (suc m) = refl
 nothing_left (suc n) zero = refl
 nothing_left (suc n) (suc m) = refl
 
--- what became of a command is told
+-- the outcome of a command is shown
 known_by : (ring : RingState) (opening : CacheState) (order : Order) (text : List ℕ) (first second : List Entry) (log : Log) → IsSmall ring opening order text first second log
     → (tag : Tag) (place : ℕ) (atom : Atom (List ℕ)) (outcome : Outcome) → command_at order tag ≡ Some (to_place place atom) → outcome_at order tag ≡ Some outcome
     → IsToldBy (two_histories first second) log tag (to_place place atom) outcome
@@ -283,7 +283,7 @@ known_by ring opening order text first second log h tag place atom outcome at be
     (subst (λ (c : Routed). IsToldBy (two_histories first second) log tag c known.outcome) (sym command.1)
     (subst (λ (t : Tag). IsToldBy (two_histories first second) log t (to_place known.place known.atom) known.outcome) (tag_is tag tag.request own.0 refl command.0) known.told))
 
--- where an entry is
+-- the place and index of an entry
 sites_by : (ring : RingState) (opening : CacheState) (order : Order) (text : List ℕ) (first second : List Entry) (log : Log) → (h : IsSmall ring opening order text first second log)
     → (place k : ℕ) (e : Entry) → slice_get (two_histories first second place) k ≡ Some e → (h.places e.request ≡ place) × (h.numbers e.request ≡ k)
 sites_by ring opening order text first second log h =

@@ -1,4 +1,4 @@
--- What the bytes of a reply say of it.
+-- What the bytes of a reply show of it.
 use Rattle.std.proofs.Common.{◌≡◌, ◌∙◌, ℕ, zero, suc, ◌+◌, ◌%◌, ◌/◌, ◌<◌, ◌≤◌, ◌^◌, ◌==◌, ◌||◌, ◌&&◌, nat_lt, Bool, true, false, if◌then◌else◌, List, [], ◌∷◌, ◌++◌, length, codes, decimal, Option, Some, None, refl, sym, ap, ap₂, arith}
 use Rattle.std.specs.Fmt.{digit_glyph, digits, digits_onto}
 use Rattle.std.proofs.lemmas.Bool.{true≢false}
@@ -17,7 +17,7 @@ use Rattle.mc_reply.specs.declared.replies.Shown.{Shown}
 use Rattle.mc_registers.specs.Guarantees.{is_done, update_in}
 use Rattle.mc_registers.proofs.HitLemmas.{is_refused}
 
--- a number is spelled by digits, however large it is
+-- a number is written as digits, however large it is
 abbrev pub AreDigits : List ℕ → Type 0
 AreDigits [] = Unit {0}
 AreDigits (b ∷ bs) = (47 < b) × (b < 58) × AreDigits bs
@@ -44,7 +44,7 @@ pub decimal_digits : (n : ℕ) → AreDigits (decimal n)
 unfolding digits
 decimal_digits n = onto_digits 64 n [] tt
 
--- digits end where another byte stands
+-- digits end at another byte
 digits_end : (ds es : List ℕ) (a b : ℕ) (xs ys : List ℕ) → AreDigits ds → AreDigits es → a < 48 → b < 48 → ds ++ a ∷ xs ≡ es ++ b ∷ ys → (ds ≡ es) × (a ∷ xs ≡ b ∷ ys)
 digits_end [] [] a b xs ys first second low high same = (refl, same)
 digits_end [] (e ∷ es) a b xs ys first second low high same = absurd (let h : a ≡ e = cc in omega (arith, h, low, second.0))
@@ -67,7 +67,7 @@ abbrev second_byte : List ℕ → ℕ
 second_byte [] = 0
 second_byte (b ∷ bs) = first_byte bs
 
--- what is answered as a hit is one
+-- a reply with the bytes of a hit is a hit
 pub record IsHit (reply : Reply (List ℕ)) : Type 0 where
   pub flags : ℕ
   pub cas : Option ℕ
@@ -100,7 +100,7 @@ number_in (Some n) number xs ys same =
     let t : decimal n ++ 13 ∷ xs ≡ decimal number ++ 13 ∷ ys = append_cancel_left (codes " ") (decimal n ++ 13 ∷ xs) (decimal number ++ 13 ∷ ys) same in
     (n, refl, (numbers_end n number 13 13 xs ys (omega arith) (omega arith) t).0)
 
--- what follows the size of a value
+-- the bytes after the size of a value
 sizes_end : (m n : ℕ) (c d : Option ℕ) (xs ys : List ℕ) → decimal m ++ cas_onto c (13 ∷ xs) ≡ decimal n ++ cas_onto d (13 ∷ ys) → cas_onto c (13 ∷ xs) ≡ cas_onto d (13 ∷ ys)
 sizes_end m n None None xs ys same = (numbers_end m n 13 13 xs ys (omega arith) (omega arith) same).1
 sizes_end m n None (Some d) xs ys same = (numbers_end m n 13 32 xs (decimal d ++ 13 ∷ ys) (omega arith) (omega arith) same).1
@@ -124,11 +124,11 @@ number_read key f flags c number v value same =
     let third : sizes ≡ others = append_cancel_left (codes " ") sizes others second in
     number_in c number xs ys (sizes_end (length v) (length value) c (Some number) xs ys third)
 
--- the same number, if it fits 64 bits
+-- equal digits are of the same number, if it fits 64 bits
 pub number_same : (n number : ℕ) → n ≤ number → number < 2 ^ 64 → decimal n ≡ decimal number → n ≡ number
 number_same n number less small same = decimal_injective n number (omega (arith, less, small)) small same
 
--- what says that a store was not done has not the bytes of what says that an update was
+-- bytes that say that a store was not done are not bytes that say that an update was
 abbrev refuses : List ℕ → Bool
 refuses bytes =
     ((first_byte bytes == 78) || ((first_byte bytes == 69) || (first_byte bytes == 67))) || ((first_byte bytes == 83) && (second_byte bytes == 69))
@@ -189,7 +189,7 @@ refused_apart (atoms.Update own) update refusal done updates refused is same =
 refused_apart (atoms.Meta command) update refusal done updates refused is same =
     true≢false (sym (refusal_refuses refusal refused).1 ∙ ap (λ bytes. refuses bytes) same ∙ (done_accepts done is).1)
 
--- a line of digits is a number, and nothing else is
+-- a line of digits is a number, and no other line is
 abbrev is_count_line : List ℕ → Bool
 is_count_line bytes = nat_lt 0 (first_byte bytes) && nat_lt (first_byte bytes) 58
 
@@ -237,7 +237,7 @@ number_told (Fault TooLarge) number same = absurd (count_clash (reply_line (Faul
 number_told (Fault CasUsedUp) number same = absurd (count_clash (reply_line (Fault CasUsedUp)) number same refl)
 number_told (Fault OutOfMemory) number same = absurd (count_clash (reply_line (Fault OutOfMemory)) number same refl)
 
--- what `mg` answers as a value is one
+-- a reply with the bytes of a value of `mg` is one
 pub record IsValue (reply : Reply (List ℕ)) : Type 0 where
   pub shown : Shown
   pub value : List ℕ

@@ -17,7 +17,7 @@ one_more : (v : Bool) (few many : ℕ) → few ≤ many → (if v then suc few e
 one_more true few many less = omega (arith, less)
 one_more false few many less = less
 
--- there are no more before an event than before a later one of its kind
+-- no more are before an event than before a later one of its kind
 pub number_later : (is kind : Logged → Bool) (few many : ℕ) (log : Log) → few ≤ many → number_of is (before kind few log) ≤ number_of is (before kind many log)
 number_later is kind few many [] less = omega arith
 number_later is kind zero zero (x ∷ xs) less = omega arith

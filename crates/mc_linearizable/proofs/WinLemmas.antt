@@ -29,7 +29,7 @@ have_not order histories key a b (x ∷ xs) (done ∷ all) none between told = (
   have_not order histories key a b xs all none between.1 told.1,
 )
 
--- a win is a look, and writes nothing
+-- a win is an `mg`, and writes nothing
 win_looks : (atom : Atom (List ℕ)) (reply : AReply (List ℕ)) → has_won atom reply ≡ true → has_written atom reply ≡ false
 win_looks (atoms.Get key touch with_cas) reply won = refl
 win_looks (atoms.Update update) reply won = absurd cc

@@ -1,6 +1,6 @@
--- What the clients of a pool may rely on, of one key: this project's own. The laws of a register (mc_registers) are of runs. These are of the
--- commands on a key that servers executed, in the key's one order, and of the replies that the proxy took. A lost command is in that order too,
--- if it was executed.
+-- What the clients of a pool may rely on, of one key: this project's own. The laws of a register (mc_registers) are about runs. These laws are about the
+-- commands on a key that servers executed, in the key's one order, and about the replies that the proxy took. A lost command is in that order too, if it was
+-- executed.
 use Rattle.std.specs.Prelude.{ℕ, suc, ◌≡◌, ◌<◌, ◌≤◌, ◌^◌, ◌⊎◌, ℤ, Bool, true, false, List, [], ◌∷◌, ◌++◌, Option, Some, None, IfSome}
 use Rattle.mc_item.specs.declared.bodies.Body.{Body}
 use Rattle.mc_request.specs.declared.meta.Counting.{Counting}
@@ -33,7 +33,7 @@ use Rattle.mc_linearizable.specs.Linearizable.{ComesFirst, Executed, IsEarlier}
 abbrev pub WasAnsweredBy : Order → Log → Tag → AReply (List ℕ) → Type 0
 WasAnsweredBy order log tag reply = WasAnswered tag log × (outcome_at order tag ≡ Some (Reply reply))
 
--- so it was, and the reply says that an update is done
+-- a command's request was answered, and the reply says that an update is done
 abbrev pub WasDone : Order → Log → Tag → Type 0
 WasDone order log tag = (reply : AReply (List ℕ)) × WasAnsweredBy order log tag reply × (is_done reply ≡ true)
 
@@ -73,7 +73,7 @@ HasWritten x = (reply : AReply (List ℕ)) × (x.entry.reply ≡ spelling_of x.a
 abbrev pub HasNotWritten : {order : Order} {histories : ℕ → List Entry} {key : List ℕ} → Executed order histories key → Type 0
 HasNotWritten x = (reply : AReply (List ℕ)) × (x.entry.reply ≡ spelling_of x.atom reply) × (has_written x.atom reply ≡ false)
 
--- a command comes between two others
+-- a command is between two others in the key's order
 abbrev pub ComesBetween : {order : Order} {histories : ℕ → List Entry} {key : List ℕ} → Executed order histories key → Executed order histories key
     → Executed order histories key → Type 0
 ComesBetween a x b = ComesFirst a x × ComesFirst x b
@@ -82,8 +82,8 @@ ComesBetween a x b = ComesFirst a x × ComesFirst x b
 abbrev pub IsInLife : {order : Order} {histories : ℕ → List Entry} {key : List ℕ} → ℕ → Log → Executed order histories key → Type 0
 IsInLife life log x = (taken_before x.place life log ≤ x.number) × (x.number < taken_before x.place (suc life) log)
 
--- Clients read their own writes. A whole value was stored, and its client was answered so. Then a request was taken that gets the key, and
--- was answered by a hit. This shows the value with its flags, or another command that may have written comes between the two.
+-- Clients read their own writes. A whole value was stored, and its client was answered so. Then a request was taken that gets the key, and was answered by a
+-- hit. The hit shows the value with its flags, or another command that may have written is between the two.
 abbrev pub ClientsReadOwnWrites : Order → (ℕ → List Entry) → Log → List ℕ → Type 0
 ClientsReadOwnWrites order histories log key =
     (write read : Executed order histories key) (flags : ℕ) (value : List ℕ) → StoresWhole write.atom flags value → WasDone order log (tag_in write.entry)
@@ -92,8 +92,8 @@ ClientsReadOwnWrites order histories log key =
     → ShowsValue read.atom (Hit shown_flags number shown) flags value
     ⊎ ((other : Executed order histories key) × ComesBetween write other read × MayHaveWritten other)
 
--- Clients lose no write by `cas`. A hit of `gets` or `gats` showed a number, and its client was answered so. Then a request was taken that compares this number, and
--- was answered that it stored. Both were executed in one life of one server. So no command between the two has written.
+-- Clients lose no write by `cas`. A hit of `gets` or `gats` showed a number, and its client was answered so. Then a request was taken that compares this
+-- number, and was answered that it stored. Both were executed in one life of one server. So no command between the two has written.
 abbrev pub ClientsLoseNoCas : Order → (ℕ → List Entry) → Log → List ℕ → Type 0
 ClientsLoseNoCas order histories log key =
     (read cas other : Executed order histories key) → IsGet read.atom
@@ -109,8 +109,8 @@ NoneMayHaveWritten {order} {histories} {key} a b = (other : Executed order histo
 abbrev pub NoneHasWritten : {order : Order} {histories : ℕ → List Entry} {key : List ℕ} → Executed order histories key → Executed order histories key → Type 0
 NoneHasWritten {order} {histories} {key} a b = (other : Executed order histories key) → ComesBetween a other b → HasWritten other → ⊥
 
--- A command hits by a reply. `get`, `gets`, `gat` and `gats` show an item. `mg` shows a value, and did not make the item: it does not ask for that, by
--- `N`, or its client is not shown W.
+-- A command hits by a reply. `get`, `gets`, `gat` and `gats` show an item. `mg` shows a value, and did not make the item: it does not ask for that, by `N`, or
+-- its client is not shown W.
 abbrev pub HitsBy : Atom (List ℕ) → AReply (List ℕ) → Type 0
 HitsBy (atoms.Get key exptime with_cas) (Hit flags number value) = Unit {0}
 HitsBy (atoms.Meta (metas.Get key get)) (Meta shown (Some value)) = (get.create ≡ None) ⊎ (is_win shown.marks ≡ false)
@@ -122,12 +122,12 @@ HasContent (Hit own number shown) flags value = (own ≡ flags) × (shown ≡ va
 HasContent (Meta shown (Some text)) flags value = IfSome shown.flags (λ (own : ℕ). own ≡ flags) × (text ≡ value)
 HasContent reply flags value = ⊥
 
--- a reply has the bytes of one that has them
+-- a reply has the bytes of a reply with this value and these flags
 abbrev pub ShowsContent : Atom (List ℕ) → AReply (List ℕ) → ℕ → List ℕ → Type 0
 ShowsContent atom reply flags value = (same : AReply (List ℕ)) × (spelling_of atom reply ≡ spelling_of atom same) × HasContent same flags value
 
--- A hit shows the last store. A whole value was stored, be it by a lost command. A hit comes after it, and no command between the two may have written.
--- The hit shows the value, and its flags if it shows any.
+-- A hit shows the last store. A whole value was stored, also by a lost command. A hit follows it in the key's order, and no command between the two may have
+-- written. The hit shows the value, and its flags if it shows any.
 abbrev pub AHitShowsTheLastStore : Order → (ℕ → List Entry) → Log → List ℕ → Type 0
 AHitShowsTheLastStore order histories log key =
     (store read : Executed order histories key) (flags : ℕ) (value : List ℕ) (hit : AReply (List ℕ)) → StoresWhole store.atom flags value → HasWritten store
@@ -166,7 +166,7 @@ OneClientFills order histories log key =
     (first second : Executed order histories key) → WasShownWin log first → WasShownWin log second → ComesFirst first second → NoneHasWritten first second
     → MayHaveWritten second
 
--- each is told so: its command, its moment, and a reply with the bytes that its server's history has
+-- each command is recorded: its command, its moment, and a reply with the bytes that its server's history has
 abbrev pub AreTold : {histories : ℕ → List Entry} {key : List ℕ} → (order : Order) → List (Executed order histories key) → List Done → Type 0
 AreTold order [] [] = Unit {0}
 AreTold order [] (done ∷ all) = ⊥
@@ -178,14 +178,14 @@ abbrev pub IsAdd : Atom (List ℕ) → Type 0
 IsAdd atom =
     (compare : Option ℕ) × (key : List ℕ) × (flags : ℕ) × (exptime : ℤ) × (value : List ℕ) × (update_in atom ≡ Some (Store Add compare key flags exptime value))
 
--- commands that come between two others
+-- commands that are between two others in the key's order
 abbrev pub ComeBetween : {order : Order} {histories : ℕ → List Entry} {key : List ℕ} → Executed order histories key → List (Executed order histories key)
     → Executed order histories key → Type 0
 ComeBetween a [] b = Unit {0}
 ComeBetween a (x ∷ xs) b = ComesBetween a x b × ComeBetween a xs b
 
--- An `add` excludes. An `add` stored, and no command between an earlier one and it may have written. If an item was held after the earlier one, it
--- was forgotten, or was dead: no register that holds an item, and keeps it, gives the replies from then on.
+-- An `add` excludes. An `add` stored, and no command between an earlier one and it may have written. If an item was stored after the earlier one, it was
+-- forgotten, or was dead: no register that holds an item, and keeps it, gives the replies from then on.
 abbrev pub AnAddExcludes : Order → (ℕ → List Entry) → Log → List ℕ → Type 0
 AnAddExcludes order histories log key =
     (first add : Executed order histories key) → IsAdd add.atom → WasDone order log (tag_in add.entry) → NoneMayHaveWritten first add
@@ -193,8 +193,8 @@ AnAddExcludes order histories log key =
     → (all : List Done) (last : Done) → AreTold order between all → Tells order add.place add.entry last
     → (number : ℕ) (body : Body) → IsSteadyRun number (Some body) (all ++ last ∷ []) → ⊥
 
--- One client wins while the item stays. Two clients were shown W, and no command between the two has written. Then no register that keeps its item gives
--- the replies from the first win to the second. So it is also if each client asks by `N`.
+-- One client wins while the item stays. Two clients were shown W, and no command between the two has written. Then no register that keeps its item gives the
+-- replies from the first win to the second. This holds also if each client asks by `N`.
 abbrev pub OneClientWins : Order → (ℕ → List Entry) → Log → List ℕ → Type 0
 OneClientWins order histories log key =
     (winner rival : Executed order histories key) → WasShownWin log winner → WasShownWin log rival → NoneHasWritten winner rival

@@ -1,13 +1,13 @@
 -- Each key of a pool is linearizable: source Herlihy and Wing, "Linearizability: a correctness condition for concurrent objects" (1990). The
 -- commands on a key have one order. In it a register that may forget (mc_registers) gives the replies that the proxy took. It keeps to real
--- time: if the proxy took a command's reply, and put out its answer before it took another request, the command comes first. A lost command
--- happens at most once, at any time after it was taken: so theirs is of calls that never return. Its client is answered by the choice for
+-- time: if the proxy took a command's reply, and emitted its answer before it took another request, the command comes first. A lost command
+-- happens at most once, at any time after it was taken: theirs says this of calls that never return. Its client is answered by the choice for
 -- lost commands: by a line that says so, or as if it had missed. All else is this project's own.
 --
 -- Stronger than theirs: the order is a known one, by place, and at one place that of the server's turns. A request is taken after its client has
 -- sent it, and answered before its client has the answer. A client that does not wait for its answers has its order too
 -- (`pipelined_commands_keep_their_order`).
--- Weaker: a `get` of several keys is a command for each, so it may show values that were never held together. A flush has no key: a register
+-- Weaker: a `get` of several keys is a command for each, so it may show values that were never stored together. A flush has no key: a register
 -- may forget at any time, and nothing says that it does. Of two keys no common order is stated. Their theorem 1 has one for commands of one key
 -- each: what is linearizable key by key is so as a whole. That is not proved here.
 use Rattle.std.specs.Prelude.{ℕ, ◌≡◌, ◌<◌, ◌⊎◌, ◌++◌, true, List, Some, None, All, map, slice_get, take}
@@ -43,7 +43,7 @@ pub record Executed (order : Order) (histories : ℕ → List Entry) (key : List
   pub command : command_at order (tag_in entry) ≡ Some (to_place place atom)
   pub on : is_on key atom ≡ true
 
--- The one order of a key's commands. A key stays where it is, or goes to a server that joins, whose place is higher: so a command comes before
+-- The one order of a key's commands. A key stays where it is, or goes to a server that joins, whose place is higher. So a command comes before
 -- another if its place is lower, or if it is earlier in the same history.
 abbrev pub ComesFirst : {order : Order} {histories : ℕ → List Entry} {key : List ℕ} → Executed order histories key → Executed order histories key → Type 0
 ComesFirst a b = (a.place < b.place) ⊎ ((a.place ≡ b.place) × (a.number < b.number))
@@ -52,35 +52,35 @@ ComesFirst a b = (a.place < b.place) ⊎ ((a.place ≡ b.place) × (a.number < b
 abbrev pub IsEarlier : Tag → Tag → Log → Type 0
 IsEarlier a b log = WasAnswered a (before (takes b.session) b.request log)
 
--- The proxy took the reply to a command. A client may not see it: a `get` of two keys of which one was lost can be answered by one line.
+-- The proxy took the reply to a command. A client may not see it: a `get` of two keys, one of which was lost, can be answered by one line.
 abbrev pub WasReplied : Order → Tag → Type 0
 WasReplied order tag = (reply : AReply (List ℕ)) × (outcome_at order tag ≡ Some (Reply reply))
 
--- What became of a command on a key: it was executed, and its entry has the reply that the proxy took; or it was lost, as the log shows.
+-- The outcome of a command on a key: it was executed, and its entry has the reply that the proxy took; or it was lost, as the log shows.
 abbrev pub Became : Order → (ℕ → List Entry) → Log → List ℕ → Tag → ℕ → Atom (List ℕ) → Outcome → Type 0
 Became order histories log key tag place atom (Reply reply) =
     (x : Executed order histories key) × (tag_in x.entry ≡ tag) × (x.entry.reply ≡ spelling_of atom reply)
 Became order histories log key tag place atom Lost = IsToldLost place tag (histories place) log
 Became order histories log key tag place atom Awaited = ⊥
 
--- Of these entries those on a key are a run of its register. It holds nothing at first, and answers each command what its entry has.
+-- Of these entries those on a key are a run of its register. The register holds nothing at first, and answers each command what its entry has.
 abbrev pub AreOfRegister : ℕ → Order → ℕ → List ℕ → List Entry → Type 0
 AreOfRegister counter order place key entries = (all : List Done) × TellEach order place entries all × IsRun counter None (on_key key all)
 
--- A key is linearizable: by its order, which each life of each server goes on with.
+-- A key is linearizable: by its order, which each life of each server continues.
 pub record IsLinearizable (counter : ℕ) (order : Order) (histories : ℕ → List Entry) (log : Log) (key : List ℕ) : Type 0 where
   -- in this order a register may give these replies, if it begins anew with each life of a server
   pub lives : (place life : ℕ) → AreOfRegister counter order place key (in_life place life log (histories place))
-  -- the order keeps to real time, of each command whose reply the proxy took
+  -- the order keeps to real time, for each command whose reply the proxy took
   pub in_time : (a b : Executed order histories key) → WasReplied order (tag_in a.entry) → IsEarlier (tag_in a.entry) (tag_in b.entry) log → ComesFirst a b
   -- each command whose request was answered is in it, with the reply that the proxy took, or was lost
   pub told : (tag : Tag) (place : ℕ) (atom : Atom (List ℕ)) → command_at order tag ≡ Some (to_place place atom) → is_on key atom ≡ true → WasAnswered tag log
       → (outcome : Outcome) × (outcome_at order tag ≡ Some outcome) × Became order histories log key tag place atom outcome
-  -- and none is in it twice
+  -- no command is in it twice
   pub once : (a b : Executed order histories key) → tag_in a.entry ≡ tag_in b.entry → (a.place ≡ b.place) × (a.number ≡ b.number)
 
--- A pool is linearizable, each key by itself, by an order of all requests that were taken. Most clauses are those of its account (mc_world).
--- Which rings route requests is of the account, and not of this.
+-- A pool is linearizable, each key by itself, by an order of all requests that were taken. Most clauses are those of its account (mc_world). The
+-- account, and not this, says which rings route requests.
 pub record IsLinearizablePool (losses : Losses) (counter : ℕ) (order : Order) (texts outs : ℕ → List ℕ) (histories : ℕ → List Entry) (log : Log) : Type 0 where
   -- the requests of each client were taken as it sent them, in order, by the turns of the log; each of their commands has its outcome
   pub asked : (client : ℕ) → (untaken : List Taken) × (taken_of client order ++ untaken ≡ requests_of (texts client))
@@ -98,12 +98,12 @@ pub record IsLinearizablePool (losses : Losses) (counter : ℕ) (order : Order) 
   -- each key is linearizable
   pub keys : (key : List ℕ) → IsLinearizable counter order histories log key
 
--- so is each world, by some order: of its clients' texts, what was put out to them, its servers' histories, and its log
+-- each world is linearizable, by some order: of its clients' texts, the bytes that were emitted to them, its servers' histories, and its log
 abbrev pub IsLinearizableWorld : WorldState → Type 0
 IsLinearizableWorld w =
     (order : Order) × IsLinearizablePool w.losses 0 order (text_of w.course) (put_out_of w.course) (history_of w.course) w.course.log
 
--- and by an order by which it gives account
+-- each world is linearizable by an order by which it gives account
 abbrev pub IsAccountedWorld : WorldState → Type 0
 IsAccountedWorld w =
     (order : Order) × Accounts w.losses w.opening (cache_of w) order (text_of w.course) (put_out_of w.course) (history_of w.course) w.course.log

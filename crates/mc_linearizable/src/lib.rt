@@ -1,8 +1,8 @@
 //! A pool is linearizable, each key by itself, though links are lost and servers die: what an application may rely on.
 //!
-//! No program uses this crate. Its functions do nothing: their contracts are the laws. `specs/Linearizable.antt` says what linearizable is,
-//! and where it is more, and less, than Herlihy and Wing's. The register of a key is that of `mc_registers`, whose laws hold in each life of a
-//! server.
+//! No program uses this crate. Its functions do nothing: their contracts are the laws. Read `specs/Linearizable.antt` for what linearizable
+//! means here, and for where it is more, and less, than Herlihy and Wing's. `specs/Clients.antt` has what the clients of such a pool may rely
+//! on. The register of a key is that of `mc_registers`, whose laws hold in each life of a server.
 #![tactic(auto)]
 
 mod clients;

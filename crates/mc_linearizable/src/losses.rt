@@ -16,8 +16,8 @@ ghost use Rattle.mc_pool_laws.specs.Sent.{IsSent};
 ghost use Rattle.mc_pool_laws.specs.Told.{HasOneEntry};
 ghost use Rattle.mc_linearizable.specs.Linearizable.{ComesFirst, Executed, IsEarlier};
 
-/// A command that a client sent happens once, at the server that owns its key, or not at all, however the client is answered. So it is of a
-/// lost command too, with either choice for lost commands. In the account `lost_commands_may_come_late` it happens, and in
+/// A command that a client sent happens once, at the server that owns its key, or not at all, whatever the client's answer. This holds for a lost
+/// command too, with either choice for lost commands. In the account `lost_commands_may_come_late` it happens, and in
 /// `lost_commands_may_never_happen` it does not.
 pub fn lost_commands_happen_at_most_once()
     ensures { (losses : Losses) (ring : RingState) (opening : CacheState) (texts outs : ℕ → List ℕ) (histories : ℕ → List Entry) (log : Log)
@@ -25,8 +25,8 @@ pub fn lost_commands_happen_at_most_once()
         → ((place : ℕ) → HasNone (histories place) tag) ⊎ HasOneEntry histories command.server tag }
 {}
 
-/// An account in which a client sets `a`, and is told that the link was lost; sets `b`, and is answered STORED; and gets `a`. The lost command was
-/// executed late, on its lost generation. So the first command was answered before the second was taken, and does not come first.
+/// An account in which a client sets `a`, and is answered that the link was lost; sets `b`, and is answered STORED; and gets `a`. The lost command
+/// was executed late, on its lost generation. So the first command was answered before the second was taken, and is not first in the key's order.
 pub fn lost_commands_may_come_late()
     ensures { (ring : RingState) × (order : Order) × (outs : ℕ → List ℕ) × (histories : ℕ → List Entry) × (log : Log) × IsRing ring
         × Accounts Told ring (opening_cache 1000 10 0) order
@@ -36,7 +36,8 @@ pub fn lost_commands_may_come_late()
         × IsEarlier (tag_in a.entry) (tag_in b.entry) log × (ComesFirst a b → ⊥) }
 {}
 
-/// An account in which a client sets `a`, and is told that the link was lost, which was up when the command was taken. No server executed it.
+/// An account in which a client sets `a`, and is answered that the link was lost, which was up when the command was taken. No server executed the
+/// command.
 pub fn lost_commands_may_never_happen()
     ensures { (ring : RingState) × (order : Order) × (outs : ℕ → List ℕ) × (histories : ℕ → List Entry) × (log : Log) × IsRing ring
         × Accounts Told ring (opening_cache 1000 10 0) order (λ client. if 0 == client then codes "set k 0 0 1\r\na\r\n" else []) outs histories log

@@ -1,4 +1,4 @@
-//! What premises of the laws are for: accounts in which one fails, and so does what the law promises.
+//! Why the laws have their premises: accounts in which one premise fails, and so does what the law promises.
 ghost use Rattle.std.specs.Prelude.{ℕ, ◌≡◌, ◌==◌, List, [], None, Some, codes, if◌then◌else◌};
 ghost use Rattle.mc_reply.specs.declared.replies.Reply.TheVariants.{Hit};
 ghost use Rattle.mc_ring.specs.Rings.{IsRing, RingState};
@@ -14,7 +14,7 @@ ghost use Rattle.mc_linearizable.specs.Clients.{Compares, ComesBetween, HasWritt
 ghost use Rattle.mc_linearizable.specs.Linearizable.{ComesFirst, Executed, IsEarlier, WasReplied};
 
 /// An account in which a client sets `a`, gets it, and sets `b`. The get was taken before the second set was answered. It does not show `b`, and no
-/// command comes between the two: the get comes first.
+/// command is between the two: the get is first.
 pub fn early_gets_show_older_values()
     ensures { (ring : RingState) × (order : Order) × (outs : ℕ → List ℕ) × (histories : ℕ → List Entry) × (log : Log) × IsRing ring
         × Accounts Told ring (opening_cache 1000 10 0) order
@@ -36,8 +36,8 @@ pub fn numbers_fit_another_server()
         × IsEarlier (tag_in read.entry) (tag_in cas.entry) log × IsInLife 0 log read × IsInLife 0 log cas × (read.place ≡ cas.place → ⊥) × ComesBetween read other cas × HasWritten other }
 {}
 
-/// An account in which a client sets `a` and `b`, and does not wait for the first answer. The second command was lost, and comes first. No clause of
-/// an account forbids it.
+/// An account in which a client sets `a` and `b`, and does not wait for the first answer. The second command was lost, and is first in the key's
+/// order. No clause of an account forbids it.
 pub fn lost_commands_may_come_early()
     ensures { (ring : RingState) × (order : Order) × (outs : ℕ → List ℕ) × (histories : ℕ → List Entry) × (log : Log) × IsRing ring
         × Accounts Told ring (opening_cache 1000 10 0) order (λ client. if 0 == client then codes "set k 0 0 1\r\na\r\nset k 0 0 1\r\nb\r\n" else []) outs histories log

@@ -1,11 +1,11 @@
-//! The law of worlds.
+//! The law of linearizability for worlds.
 ghost use Rattle.mc_linearizable.specs.Linearizable.{IsAccountedWorld, IsLinearizableWorld};
 
 use mc_store::Store;
 use mc_world::World;
 
-/// Each world is linearizable, each key by itself, whatever was done to the world by its calls (`linearizable`). It is so by an order by which
-/// the world gives account (`accounted`). The call does nothing: its contract is the law.
+/// Each world is linearizable, each key by itself, whatever was done to the world by its calls (`linearizable`). It is linearizable by an
+/// order by which the world gives account (`accounted`). The call does nothing: its contract is the law.
 pub fn worlds_are_linearizable<S: Store + Drop>(world: &World<S>)
     ensures linearizable { IsLinearizableWorld world.now }
     ensures accounted { IsAccountedWorld world.now }

@@ -1,4 +1,4 @@
--- What an answer says by the choice for lost commands.
+-- What an answer shows by the choice for lost commands.
 use Rattle.std.proofs.Common.{◌≡◌, ◌≢◌, ◌∙◌, ℕ, ℤ, suc, ◌⊎◌, inl, inr, Bool, true, false, if◌then◌else◌, List, [], ◌∷◌, ◌++◌, Option, codes, refl, sym, ap, subst}
 use Rattle.std.proofs.lemmas.Bool.{true≢false}
 use Rattle.mc_request.specs.Hides.{hides_of}
@@ -79,7 +79,7 @@ shown_missed ring texts histories log client request answer h keys exptime with_
 same_unlost : (what : Request) (outcomes : List Outcome) → has_lost outcomes ≡ false → joined_with Told what outcomes ≡ joined_with Missed what outcomes
 same_unlost what outcomes none = joined-unlost Told what outcomes none ∙ sym (joined-unlost Missed what outcomes none)
 
--- with `Told` there is the line of a lost link else
+-- otherwise, with `Told`, the answer is the line of a lost link
 told_line : (what : Request) (outcomes : List Outcome) → has_lost outcomes ≡ true → joined_with Told what outcomes ≡ lost_line
 told_line what outcomes lost = rw lost refl
 
@@ -126,7 +126,7 @@ shown_meta_missed ring texts histories log client request answer h key get form 
     (meta_by h.ring histories log client request key get form h.outcomes
     (subst (λ (t : Taken). AreToldBy histories log client request 0 (route_of_taken h.ring t) h.outcomes) is h.told))
 
--- where no command was lost, each was replied
+-- if no command was lost, each has a reply
 all_replied : (histories : ℕ → List Entry) (log : Log) (client request at : ℕ) (commands : List Routed) (outcomes : List Outcome) → has_lost outcomes ≡ false
     → AreToldBy histories log client request at commands outcomes → HaveReplies histories client request at commands (replies_in outcomes)
 all_replied histories log client request at [] [] none told = tt
@@ -156,7 +156,8 @@ done_told ring texts histories log client request answer h what is differ =
     replied_unlost Told ring texts histories log client request answer h what is
     (told_unlost what h.outcomes answer (bytes_of Told ring texts histories log client request answer h what is) differ)
 
--- with `Missed` a request that is no retrieval gets that line, or nothing, if a command was lost
+-- if a command was lost, the answer with `Missed` to a request that is no retrieval is that line,
+-- or empty
 missed_line : (what : Request) (outcomes : List Outcome) → is_retrieval what ≡ false → has_lost outcomes ≡ true
     → joined_with Missed what outcomes ≡ (if hides_any (hides_of what) then [] else lost_line)
 missed_line what outcomes other lost = rw (lost, other) refl

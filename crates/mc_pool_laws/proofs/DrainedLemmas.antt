@@ -35,7 +35,7 @@ drained_event moment (LinkLost server) h = absurd (false≢true h)
 drained_event moment (LinkBack server) h = absurd (false≢true h)
 drained_event moment (ServerSeesEnd server generation) h = refl
 
--- what is added to a log
+-- the entries that are added to a log
 abbrev Adds : ℕ → Log → Log → Type 0
 Adds moment old new = (added : Log) × (new ≡ old ++ added) × (list_all (is_of_drain_at moment) added ≡ true)
 
@@ -52,7 +52,7 @@ events_add moment (event ∷ events) old new all done =
 pub drain_adds : (moment : ℕ) (old new : CourseState) → Drains moment old new → Adds moment old.log new.log
 drain_adds moment old new h = events_add moment h.events old new h.all h.done
 
--- a client that is there took the answers to all its requests
+-- a client that has not gone took the answers to all its requests
 pub all_answered : (losses : Losses) (ring : RingState) (opening : CacheState) (c : CourseState) → Account losses ring opening (text_of c) (put_out_of c) (history_of c) c.log → IsQuiet c
     → (client : ℕ) → IsThere client c.pool
     → (answers : List (List ℕ)) × (length answers ≡ length (requests_of (text_of c client))) × (taken_by c client ≡ concat answers)

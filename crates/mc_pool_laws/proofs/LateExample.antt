@@ -1,4 +1,5 @@
--- A run of which all clauses of an account hold but one: a command is executed after its request was answered by its reply.
+-- A run of which all clauses of an account hold except one: a command is executed after its request was answered by its
+-- reply.
 use Rattle.std.proofs.Common.{◌≡◌, ◌∙◌, ℕ, ◌<◌, ◌==◌, List, [], ◌∷◌, Some, slice_get, refl, sym, ap, ap₂, arith}
 use Rattle.std.proofs.lemmas.Bool.{false≢true}
 use Rattle.mc_request.specs.declared.parts.Atom.{Atom}

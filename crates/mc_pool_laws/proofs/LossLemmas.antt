@@ -24,7 +24,7 @@ use Rattle.mc_pool_laws.proofs.PlaceLemmas.{before-front, earlier, puts_apart}
 use Rattle.mc_pool_laws.proofs.SentLemmas.{entry_named, sent_command}
 use Rattle.mc_pool_laws.proofs.ToldLemmas.{known_at, told_by}
 
--- what the histories and the log tell of a command is an entry, or a loss
+-- the histories and the log show an entry of a command, or a loss
 entry_or_loss : (histories : ℕ → List Entry) (log : Log) (tag : Tag) (command : Routed) (outcome : Outcome) → IsToldBy histories log tag command outcome
     → HasEntry (histories command.server) tag ⊎ IsToldLost command.server tag (histories command.server) log
 entry_or_loss histories log tag command (Reply reply) told = inl (told.0, told.1, told.2, told.3)
@@ -59,7 +59,7 @@ executed_once losses ring opening order texts outs histories log h tag command s
       | inr lost ↦ absurd (nothing_lost command.server tag (histories command.server) log none lost)
     ]
 
--- where its link was not lost before its answer, no command of an answered request is told lost
+-- if its link was not lost before its answer, no command of an answered request is logged as lost
 not_lost_before : (losses : Losses) (ring : RingState) (opening : CacheState) (order : Order) (texts outs : ℕ → List ℕ) (histories : ℕ → List Entry) (log : Log)
     → Accounts losses ring opening order texts outs histories log → (place : ℕ) (tag : Tag) → WasAnswered tag log
     → number_of (loses place) (before (puts tag.session) tag.request log) ≡ 0 → IsToldLost place tag (histories place) log → ⊥
@@ -84,7 +84,7 @@ executed_where_held losses ring opening order texts outs histories log h tag com
       | inr lost ↦ absurd (not_lost_before losses ring opening order texts outs histories log h command.server tag answered none lost)
     ]
 
--- an entry whose link held was replied
+-- an entry whose link held has a reply
 replied_by : (histories : ℕ → List Entry) (log : Log) (order : Order) (place k : ℕ) (e : Entry) (command : Routed) (outcome : Outcome) → command.server ≡ place
     → slice_get (histories command.server) k ≡ Some e → LinkHeld command.server (tag_in e) log → IsToldBy histories log (tag_in e) command outcome
     → outcome_at order (tag_in e) ≡ Some outcome → (reply : AReply (List ℕ)) × (outcome_at order (tag_in e) ≡ Some (Reply reply))
@@ -124,7 +124,7 @@ answered_after losses ring opening order texts outs histories log h place k e at
     omega (arith, few, later))
     (cases_lt e.request (number_of (puts e.client) log))
 
--- where a link was never lost, no command to its server is lost, and each of an answered request is replied
+-- if a link was never lost, no command to its server is lost, and each of an answered request has a reply
 pub never_lost : (losses : Losses) (ring : RingState) (opening : CacheState) (order : Order) (texts outs : ℕ → List ℕ) (histories : ℕ → List Entry) (log : Log)
     → Accounts losses ring opening order texts outs histories log → (tag : Tag) (command : Routed) → command_at order tag ≡ Some command
     → number_of (loses command.server) log ≡ 0 → outcome_at order tag ≢ Some Lost

@@ -54,7 +54,7 @@ turns-own commands place places h = h place ∙ ap (λ (v : Bool). if v then suc
 turns-after : (commands : ℕ → List Command) (place : ℕ) (places : List ℕ) → HaveTurns commands (place ∷ places) → HaveTurns (after_turn place commands) places
 turns-after commands place places h other = grind (arith, one-less)
 
--- then each of its commands is executed, in order
+-- each of its commands is executed, in order
 pub merged-own : (places : List ℕ) (commands : ℕ → List Command) → HaveTurns commands places → (place : ℕ) → commands_at place (merged commands places) ≡ commands place
 merged-own [] commands h place = nothing (commands place) (h place)
 merged-own (at ∷ places) commands h place =

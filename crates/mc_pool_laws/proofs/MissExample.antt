@@ -91,7 +91,7 @@ nothing_read = refl
 abbrev text_of : ℕ → List ℕ
 text_of client = if 0 == client then a_text else []
 
--- what was taken: the second command was lost
+-- the requests that were taken: the second command was lost
 abbrev asked_as : ℕ → Taken → Outcome → AskedFor
 asked_as request what outcome = record { session = 0; request = request; what = what; ring = one_server; losses = Missed; outcomes = outcome ∷ [] }
 
@@ -107,7 +107,7 @@ third = asked_as 2 get_asked (outcomes.Reply a_hit)
 abbrev three : Order
 three = first ∷ second ∷ third ∷ []
 
--- what the server took
+-- the entries of the server
 abbrev pub stored : Entry
 stored = record { client = 0; request = 0; atom = 0; moment = 5; refused = false; reply = spelling_of set_key Stored }
 
@@ -121,7 +121,7 @@ abbrev three_log : Log
 three_log =
     takes_one ∷ serves_one ∷ puts_one ∷ loses_one ∷ takes_one ∷ puts_one ∷ returns_one ∷ takes_one ∷ Happened (ServerTurn 0 2 5) ∷ puts_one ∷ []
 
--- in a list of two, and of three
+-- the elements of a list of two, and of three
 pub in_two : {X : Type 0} (a b : X) (k : ℕ) (y : X) → slice_get (a ∷ b ∷ []) k ≡ Some y → ((k ≡ 0) × (y ≡ a)) ⊎ ((k ≡ 1) × (y ≡ b))
 in_two a b zero y at = inl (refl, sym (same_Some a y at))
 in_two a b (suc k) y at = let h = one_here b k y at in inr (ap suc h.0, h.1)
@@ -134,7 +134,7 @@ in_three a b c (suc k) y at = inr (elim (in_two b c k y at) [
   | inr h ↦ inr (ap suc h.0, h.1)
 ])
 
--- what a client has of it
+-- the requests of a client in it
 abbrev mine : Bool → Order
 mine v =
     if v then first ∷ (if v then second ∷ (if v then third ∷ [] else []) else (if v then third ∷ [] else []))
@@ -206,7 +206,7 @@ rings_by client request x at =
       ])
     ])
 
--- the one command of each, and what became of it
+-- the one command of each, and its outcome
 pub commands_of : (x : AskedFor) (atom : Atom (List ℕ)) (k : ℕ) (command : Routed) → route_of_taken x.ring x.what ≡ to_owner one_server key atom ∷ []
     → slice_get (route_of_taken x.ring x.what) k ≡ Some command → (k ≡ 0) × (command ≡ to_place 0 atom)
 commands_of x atom k command is at =
@@ -387,7 +387,7 @@ three_accounts = record {
       );
 }
 
--- what the client is answered
+-- the answers to the client
 put_out : outs_of Missed three three_log 0 ≡ codes "STORED\r\nEND\r\nVALUE k 0 1\r\nv\r\nEND\r\n"
 unfolding digits
 put_out = refl

@@ -1,4 +1,4 @@
--- Runs of which all clauses of an account hold but one.
+-- Runs of which all clauses of an account hold except one.
 use Rattle.std.proofs.Common.{◌≡◌, ◌≢◌, ◌∙◌, ◌&&◌, ℕ, zero, suc, ◌<◌, ◌==◌, inl, inr, Bool, true, false, if◌then◌else◌, List, [], ◌∷◌, ◌++◌, length, map, take, Option, None, Some, slice_get, refl, sym, ap, subst, pos, arith}
 use Rattle.std.specs.Prelude.{codes}
 use Rattle.std.specs.List.{list_all}
@@ -47,7 +47,7 @@ use Rattle.mc_pool_laws.specs.Told.{IsUnaccounted}
 use Rattle.mc_pool_laws.specs.Without.{AccountsBut, After, Allows, Answered, Asked, Clause, Legal, Lost, Moments, Once, Placed, Put, Replied, Rings, Sized, Turns}
 use Rattle.mc_pool_laws.proofs.SentLemmas.{in_request}
 
--- what is done in the examples: a request of client 0 is taken, server 0 takes one, an answer of client 0 is put out
+-- the entries of the examples: a request of client 0 is taken, server 0 takes one, an answer of client 0 is emitted
 abbrev pub takes_one : Logged
 takes_one = Happened (ProxyTurn 0)
 
@@ -57,7 +57,7 @@ serves_one = Happened (ServerTurn 0 1 5)
 abbrev pub puts_one : Logged
 puts_one = Happened (Emit 0)
 
--- the link of server 0 is lost, and comes back
+-- the link of server 0 is lost, and comes up
 abbrev pub loses_one : Logged
 loses_one = Happened (LinkLost 0)
 
@@ -102,7 +102,7 @@ nothing_read = refl
 abbrev pub asked_by : RingState → Taken → List Outcome → AskedFor
 asked_by ring what told = record { session = 0; request = 0; what = what; ring = ring; losses = Told; outcomes = told }
 
--- in a list of one
+-- the element of a list of one
 pub one_here : {X : Type 0} (x : X) (k : ℕ) (y : X) → slice_get (x ∷ []) k ≡ Some y → (k ≡ 0) × (y ≡ x)
 one_here x zero y at = (refl, sym (same_Some x y at))
 one_here x (suc zero) y at = absurd (none-some y at)
@@ -112,15 +112,15 @@ pub none_there : {X : Type 0} (k : ℕ) (y : X) → slice_get [] k ≡ Some y �
 none_there zero y at = none-some y at
 none_there (suc k) y at = none-some y at
 
--- what begins with something is not empty
+-- a list that begins with something is not empty
 some_not_none : {X : Type 0} {x : X} {xs : List X} → x ∷ xs ≡ [] → ⊥
 some_not_none {x = x} {xs = xs} same = (let size : suc (length xs) ≡ 0 = ap length same in omega (arith, size))
 
--- of no request there is a command
+-- no request has no command
 no_command : (tag : Tag) (command : Routed) → command_at [] tag ≡ Some command → ⊥
 no_command tag command at = grind (arith, in_request, none_there)
 
--- what is there for one number alone
+-- elements that exist for one number alone
 there_by : {X : Type 0} (v : Bool) (xs : List X) (k : ℕ) (y : X) → slice_get (if v then xs else []) k ≡ Some y → (v ≡ true) × (slice_get xs k ≡ Some y)
 there_by true xs k y at = (refl, at)
 there_by false xs k y at = absurd (none_there k y at)
@@ -135,7 +135,7 @@ asked_only e client request x own at = grind (arith, one_here, there_by, own_by)
 abbrev pub first_only : List Entry → ℕ → List Entry
 first_only es place = if 0 == place then es else []
 
--- what the first server took in each of its lives is legal, where none restarted
+-- the entries of the first server in each of its lives are legal, if none restarted
 pub lives_of_first : (order : Order) (s : CacheState) (es : List Entry) (log : Log) → ((place : ℕ) → number_of (restarts place) log ≡ 0) → IsLegal order 0 s es
     → (place life : ℕ) → IsLegal order place s (in_life place life log (first_only es place))
 lives_of_first order s es log never legal place =
@@ -149,7 +149,7 @@ lives_of_first order s es log never legal place =
 pub first_there : (es : List Entry) (place k : ℕ) (e : Entry) → slice_get (first_only es place) k ≡ Some e → (0 ≡ place) × (slice_get es k ≡ Some e)
 first_there es place k e at = grind (arith, there_by, own_by)
 
--- what the log of one request counts, and what was asked
+-- the counts of the log of one request, and the request
 pub asked_text : (client : ℕ) (told : List Outcome) (ring : RingState) → (untaken : List Taken) × (taken_of client (asked_by ring flush_asked told ∷ []) ++ untaken ≡ requests_of (flush_text client))
 asked_text client told ring =
     (elim (0 == client) as (λ v. (untaken : List Taken) × (map (λ (e : AskedFor). e.what) (if v then asked_by ring flush_asked told ∷ [] else []) ++ untaken ≡ requests_of (codes "flush_all\r\n"))) [
@@ -165,7 +165,7 @@ pub complete_of : (v : Bool) (e : AskedFor) → is_complete e ≡ true → list_
 complete_of true e known = ap (λ (b : Bool). b && true) known
 complete_of false e known = refl
 
--- a request of which an answer is put out was taken before
+-- a request to which an answer is emitted was taken before
 put_by : (v : Bool) (request : ℕ) → request < (if v then suc 0 else 0) → (v ≡ true) × (request ≡ 0)
 put_by true request early = (refl, omega (arith, early))
 put_by false request early = absurd (omega (arith, early))
@@ -182,7 +182,7 @@ pub numbered_one : (v : Bool) (e : AskedFor) → e.request ≡ 0 → AreInOrder 
 numbered_one true e first = ap (λ (n : ℕ). n ∷ []) first
 numbered_one false e first = refl
 
--- a server that took nothing, or only the first command to it, followed the proxy; and where its link was lost, this is said of no history
+-- a server that took nothing, or only the first command to it, followed the proxy; and if its link was lost, no history needs to
 abbrev pub Follows : List Entry → List Tag → Type 0
 Follows es tags = (untaken : List Tag) × (map tag_in es ++ untaken ≡ tags)
 
@@ -194,7 +194,7 @@ pub follows_lost : (v : Bool) (es : List Entry) (tags : List Tag) → ◌≡◌ 
 follows_lost true es tags none = absurd (omega (arith, none))
 follows_lost false es tags none = (tags, refl)
 
--- what became of the commands of one request
+-- the outcomes of the commands of one request
 pub outcome_in_request : (o : Option AskedFor) (atom : ℕ) (q : Outcome) → outcome_in o atom ≡ Some q → (e : AskedFor) × (o ≡ Some e) × (slice_get e.outcomes atom ≡ Some q)
 outcome_in_request None atom q h = absurd (none-some q h)
 outcome_in_request (Some e) atom q h = (e, refl, h)
@@ -226,7 +226,7 @@ pub no_loss : (ring : RingState) (what : Taken) (outcome : Outcome) → is_lost 
     → outcome_at (asked_by ring what (outcome ∷ []) ∷ []) tag ≡ Some outcomes.Lost → ⊥
 no_loss ring what outcome other tag became = true≢false (ap is_lost (one_outcome ring what outcome tag outcomes.Lost became) ∙ other)
 
--- an answer is put out to the one request, and no server has executed anything
+-- an answer is emitted to the one request, and no server has executed anything
 abbrev answered_log : Log
 answered_log = takes_one ∷ puts_one ∷ []
 
@@ -452,7 +452,7 @@ without_moments losses = (
   λ same. omega (arith, same),
 )
 
--- one request is taken, and the first server has executed some commands, of which no reply has come
+-- one request is taken, and the first server has executed some commands, of which no reply has arrived
 abbrev awaited : Order
 awaited = asked_by one_server flush_asked (outcomes.Awaited ∷ []) ∷ []
 
@@ -554,7 +554,7 @@ without_legal losses = (
   not_replayed,
 )
 
--- a command before its request was taken
+-- a command is executed before its request was taken
 abbrev early_log : Log
 early_log = serves_one ∷ takes_one ∷ []
 
@@ -576,7 +576,7 @@ without_placed losses = (
   (flushed, refl, λ taken. omega (arith, taken)),
 )
 
--- a command twice, where the link was lost and came back
+-- a command is executed twice, since the link was lost and came up
 abbrev twice_log : Log
 twice_log = loses_one ∷ returns_one ∷ takes_one ∷ serves_one ∷ serves_one ∷ []
 

@@ -28,7 +28,7 @@ use Rattle.mc_pool_laws.specs.OneMaps.{ActsAsOneMap, ArePlainlyOfOneMap}
 use Rattle.mc_pool_laws.proofs.MergeLemmas.{AreOwned, HaveTurns, merged-own, merged-owned, turns-count}
 use Rattle.mc_pool_laws.proofs.OneMapOwnerLemmas.{command_is_sent, command_own}
 
--- what the order has of a command is found
+-- each command of the order is found
 abbrev Finds : LookUp → Order → Type 0
 Finds look order = (tag : Tag) (command : Routed) → command_at order tag ≡ Some command → look tag ≡ Some command
 
@@ -46,7 +46,7 @@ commands-many look order finds place s (e ∷ es) legal =
     ap (λ (cs : List Command). length cs) (commands-first look order finds e es (to_place place legal.0) legal.1)
     ∙ ap suc (commands-many look order finds place (step_of s legal.0 e.moment e.refused).0 es legal.3)
 
--- its replies are those of the cache, spelled
+-- its replies are those of the cache, encoded
 replies-told : (look : LookUp) (order : Order) → Finds look order → (place : ℕ) (s : CacheState) (es : List Entry) → IsLegal order place s es
     → map (λ (e : Entry). e.reply) es ≡ told_by (commands_of look es) (replies s (commands_of look es))
 replies-told look order finds place s [] legal = refl
@@ -55,7 +55,7 @@ replies-told look order finds place s (e ∷ es) legal =
     ap₂ (λ (r : List ℕ) (rs : List (List ℕ)). r ∷ rs) legal.2.reply (replies-told look order finds place after es legal.3)
     ∙ sym (ap (λ (cs : List Command). told_by cs (replies s cs)) (commands-first look order finds e es (to_place place legal.0) legal.1))
 
--- its commands are on keys of this server, where those of the order are
+-- its commands are on keys of this server, if those of the order are
 history-owned : (owner : List ℕ → ℕ) (look : LookUp) (order : Order) → Finds look order
     → ((tag : Tag) (place : ℕ) (atom : Atom (List ℕ)) → command_at order tag ≡ Some (to_place place atom) → (key : List ℕ) → atom_key atom ≡ Some key → place ≡ owner key)
     → (place : ℕ) (s : CacheState) (es : List Entry) → IsLegal order place s es → AreOwned owner place (commands_of look es)
@@ -82,7 +82,7 @@ history-turns losses ring opening look order texts outs histories log finds h al
     let legal = legal_whole losses ring opening order texts outs histories log h place (alive place) in
     grind (arith, length-map, moments-count, turns-count, commands-many)
 
--- the histories are those of one map, wherever all that the order has is found
+-- the histories are those of one map, if all commands of the order are found
 one-map : (losses : Losses) (ring : RingState) (budget items : ℕ) (look : LookUp) (order : Order) (texts outs : ℕ → List ℕ) (histories : ℕ → List Entry) (log : Log) → IsWithinBounds budget items
     → Accounts losses ring (opening_cache budget items 0) order texts outs histories log → Finds look order → ArePlainlyOfOneMap ring budget items look histories log
 one-map losses ring budget items look order texts outs histories log bounds h finds run =
@@ -102,7 +102,7 @@ one-map losses ring budget items look order texts outs histories log bounds h fi
     act_as_map (owner_in ring) empty_map caches es (opening_are_map (owner_in ring) budget items 0) (opening_are_unflushed budget items 0 bounds) steps in
     grind (arith, replies-told)
 
--- in the order itself all is found, and in what was sent too where no server joined
+-- in the order itself all commands are found; and in what was sent too, if no server joined
 pub map_by_order : (losses : Losses) (ring : RingState) (budget items : ℕ) (order : Order) (texts outs : ℕ → List ℕ) (histories : ℕ → List Entry) (log : Log) → IsWithinBounds budget items
     → Accounts losses ring (opening_cache budget items 0) order texts outs histories log → ArePlainlyOfOneMap ring budget items (command_at order) histories log
 map_by_order losses ring budget items order texts outs histories log bounds h = one-map losses ring budget items (command_at order) order texts outs histories log bounds h (λ tag command at. at)
@@ -113,7 +113,7 @@ map_by_texts losses ring budget items order texts outs histories log bounds h ru
     one-map losses ring budget items (sent_at ring texts) order texts outs histories log bounds h
     (command_is_sent losses ring (opening_cache budget items 0) order texts outs histories log h run.unjoined) run
 
--- so it is of a world that gives account
+-- this holds of a world that gives account
 pub one_map_of : (w : WorldState) → IsWithinBounds w.budget w.items → GivesAccount w → ActsAsOneMap w
 one_map_of w bounds account = record {
   account = account;

@@ -1,4 +1,4 @@
--- Where no server joins, each command goes to the owner of its key by the ring of the opening.
+-- If no server joins, each command goes to the owner of its key by the ring of the opening.
 use Rattle.std.proofs.Common.{◌≡◌, ◌∙◌, ℕ, List, [], ◌∷◌, Option, None, Some, slice_get, refl, sym, ap, arith}
 use Rattle.std.proofs.lemmas.Option.{none-some}
 use Rattle.mc_request.specs.Requests.{requests_of}
@@ -23,7 +23,7 @@ use Rattle.mc_pool_laws.proofs.OwnerLemmas.{taken-own}
 use Rattle.mc_pool_laws.specs.Executions.{command_sent, sent_at}
 use Rattle.mc_pool_laws.specs.OneMaps.{joins}
 
--- the ring stays where none joins
+-- the ring stays if no server joins
 ring-stays : (ring now : RingState) (log : Log) → number_of joins log ≡ 0 → IsRingAfter ring log now → now ≡ ring
 ring-stays ring now [] none h = h
 ring-stays ring now (Happened event ∷ es) none h = ring-stays ring now es none h
@@ -36,13 +36,13 @@ in-request : (o : Option Asked) (atom : ℕ) (command : Routed) → command_in o
 in-request None atom command h = absurd (none-some command h)
 in-request (Some e) atom command h = (e, refl, h)
 
--- a request of an account was routed by the ring of the opening, where none joins
+-- a request of an account was routed by the ring of the opening, if no server joins
 ring_is : (losses : Losses) (ring : RingState) (opening : CacheState) (order : Order) (texts outs : ℕ → List ℕ) (histories : ℕ → List Entry) (log : Log)
     → Accounts losses ring opening order texts outs histories log → number_of joins log ≡ 0 → (client request : ℕ) (e : Asked) → asked_at order client request ≡ Some e
     → e.ring ≡ ring
 ring_is losses ring opening order texts outs histories log h none client request e at = grind (arith, number-before, ring-stays)
 
--- so each command of it went to the owner of its key
+-- each command of it went to the owner of its key
 pub command_own : (losses : Losses) (ring : RingState) (opening : CacheState) (order : Order) (texts outs : ℕ → List ℕ) (histories : ℕ → List Entry) (log : Log)
     → Accounts losses ring opening order texts outs histories log → number_of joins log ≡ 0 → (tag : Tag) (place : ℕ) (atom : Atom (List ℕ))
     → command_at order tag ≡ Some (to_place place atom) → (key : List ℕ) → atom_key atom ≡ Some key → place ≡ owner_in ring key
@@ -51,7 +51,7 @@ command_own losses ring opening order texts outs histories log h none tag place 
     taken-own found.0.ring found.0.what tag.atom (to_place place atom) found.2 key has
     ∙ ap (λ (r : RingState). owner_in r key) (ring_is losses ring opening order texts outs histories log h none tag.session tag.request found.0 found.1)
 
--- and is in what its client sent
+-- each command of it is in what its client sent
 pub command_is_sent : (losses : Losses) (ring : RingState) (opening : CacheState) (order : Order) (texts outs : ℕ → List ℕ) (histories : ℕ → List Entry) (log : Log)
     → Accounts losses ring opening order texts outs histories log → number_of joins log ≡ 0 → (tag : Tag) (command : Routed) → command_at order tag ≡ Some command
     → sent_at ring texts tag ≡ Some command

@@ -1,4 +1,4 @@
--- A run of which all clauses of an account hold but the one of the order: two requests of a client are executed the other way round.
+-- A run of which all clauses of an account hold except the one of the order: two requests of a client are executed in reverse order.
 use Rattle.std.proofs.Common.{◌≡◌, ◌∙◌, ℕ, zero, suc, ◌<◌, ◌==◌, ◌⊎◌, inl, inr, Bool, true, false, if◌then◌else◌, List, [], ◌∷◌, ◌++◌, map, take, Some, slice_get, refl, sym, ap, ap₂, subst, arith}
 use Rattle.std.specs.Prelude.{codes}
 use Rattle.std.specs.List.{list_all}
@@ -54,16 +54,16 @@ later = record { client = 0; request = 1; atom = 0; moment = 5; refused = false;
 abbrev turned : List Entry
 turned = later ∷ flushed ∷ []
 
--- the link is lost and comes back before
+-- the link is lost and comes up before
 abbrev two_log : Log
 two_log = loses_one ∷ returns_one ∷ takes_one ∷ takes_one ∷ serves_one ∷ serves_one ∷ puts_one ∷ puts_one ∷ []
 
--- in a list of two
+-- the elements of a list of two
 pub two_here : {X : Type 0} (a b : X) (k : ℕ) (y : X) → slice_get (a ∷ b ∷ []) k ≡ Some y → ((k ≡ 0) × (y ≡ a)) ⊎ ((k ≡ 1) × (y ≡ b))
 two_here a b zero y at = inl (refl, sym (same_Some a y at))
 two_here a b (suc k) y at = let h = one_here b k y at in inr (ap suc h.0, h.1)
 
--- what a client has of it, and how many there are
+-- the requests of a client in it, and their number
 abbrev mine : Bool → Order
 mine v = if v then first_asked ∷ (if v then second_asked ∷ [] else []) else (if v then second_asked ∷ [] else [])
 
@@ -119,7 +119,7 @@ moments_by false = refl
 rings_by : (client request : ℕ) (x : AskedFor) → asked_at two_asked client request ≡ Some x → IsRingAfter one_server (before (takes client) request two_log) x.ring
 rings_by client request x at = grind (arith, one_server, asked_two)
 
--- each command of it is a flush at the first server, that was flushed
+-- each command of it is a flush at the first server, and its reply says that it was flushed
 outcomes_by : (x : AskedFor) (request : ℕ) → ((request ≡ 0) × (x ≡ first_asked)) ⊎ ((request ≡ 1) × (x ≡ second_asked)) → x.outcomes ≡ outcomes.Reply Flushed ∷ []
 outcomes_by x request (inl h) = ap (λ (y : AskedFor). y.outcomes) h.1
 outcomes_by x request (inr h) = ap (λ (y : AskedFor). y.outcomes) h.1

@@ -12,7 +12,7 @@ use Rattle.mc_route.specs.Routes.{owner_in, route_of, route_of_gets, route_of_ta
 use Rattle.mc_route.specs.declared.routes.Routed.{Routed}
 use Rattle.mc_cache.specs.Step.{atom_key}
 
--- of what is in a list
+-- this holds of each element of a list
 abbrev Each : {X : Type 0} → (X → Type 0) → List X → Type 0
 Each {X} P xs = (k : ℕ) (x : X) → slice_get xs k ≡ Some x → P x
 

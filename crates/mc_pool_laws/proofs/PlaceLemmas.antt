@@ -1,4 +1,4 @@
--- Events of a log that come before others.
+-- Events of a log that are before others.
 use Rattle.std.proofs.Common.{◌≡◌, ◌∙◌, ℕ, zero, suc, ◌<◌, Bool, true, false, if◌then◌else◌, [], ◌∷◌, ◌++◌, refl, ap, arith}
 use Rattle.std.proofs.lemmas.Bool.{false≢true}
 use Rattle.mc_world.specs.declared.events.Event.TheVariants.{Emit}
@@ -7,7 +7,7 @@ use Rattle.mc_world.specs.declared.logs.Logged.{Logged}
 use Rattle.mc_world.specs.declared.logs.Logged.TheVariants.{Happened}
 use Rattle.mc_world.proofs.LogLemmas.{before-more, before-other}
 
--- what is before an event is the first of the log
+-- the log before an event is a front of the log
 pub front_of : (kind : Logged → Bool) (k : ℕ) (log : Log) → (rest : Log) × (log ≡ before kind k log ++ rest)
 front_of kind k [] = ([], refl)
 front_of kind zero (x ∷ xs) =
@@ -20,13 +20,13 @@ front_of kind (suc k) (x ∷ xs) =
     let again = front_of kind (if kind x then k else suc k) xs in
     (again.0, ap (λ (es : Log). x ∷ es) again.1)
 
--- so what is before one of the events there is the same
+-- the log before one of the events in that front is as in the front
 pub before-front : (is kind : Logged → Bool) (number k : ℕ) (log : Log) → number < number_of is (before kind k log) → before is number log ≡ before is number (before kind k log)
 before-front is kind number k log early =
     let front = front_of kind k log in
     ap (λ (l : Log). before is number l) front.1 ∙ before-more is number (before kind k log) front.0 early
 
--- where none of a kind is in a log, the first is not, and none is in the rest
+-- if a log has none of a kind, its first event is of another, and the rest has none
 none_first : (kind : Logged → Bool) (x : Logged) (xs : Log) → number_of kind (x ∷ xs) ≡ 0 → (kind x ≡ false) × (number_of kind xs ≡ 0)
 none_first kind x xs none =
     (elim (kind x) as (λ v. (if v then suc (number_of kind xs) else number_of kind xs) ≡ 0 → (v ≡ false) × (number_of kind xs ≡ 0)) [
@@ -34,7 +34,7 @@ none_first kind x xs none =
       | false ↦ λ nothing. (refl, nothing)
     ]) none
 
--- one of which none of another kind is before is itself before each of those
+-- an event that has none of another kind before it is itself before each of those
 pub earlier : (is kind : Logged → Bool) → ((x : Logged) → is x ≡ true → kind x ≡ false) → (number k : ℕ) (log : Log) → number < number_of is log
     → number_of kind (before is number log) ≡ 0 → number < number_of is (before kind k log)
 earlier is kind apart number k [] inside none = absurd (omega (arith, inside))
@@ -69,7 +69,7 @@ earlier is kind apart (suc number) k (x ∷ xs) inside none =
           omega (arith, rest, again)
     ]) refl inside none
 
--- an answer that is put out is no loss
+-- the emission of an answer is no loss
 pub puts_apart : (client place : ℕ) (x : Logged) → puts client x ≡ true → loses place x ≡ false
 puts_apart client place (Happened (Emit of)) own = refl
 puts_apart client place other own = absurd (false≢true own)

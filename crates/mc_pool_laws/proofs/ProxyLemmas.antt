@@ -1,4 +1,4 @@
--- Where a link was never lost: what became of the commands to its server, and whose commands its history is of.
+-- A link that was never lost: the outcomes of the commands to its server, and whose commands its history is of.
 use Rattle.std.proofs.Common.{◌≡◌, ◌∙◌, ℕ, suc, ◌+◌, ◌==◌, Bool, true, if◌then◌else◌, List, [], ◌∷◌, ◌++◌, length, map, Some, slice_get, refl, sym, ap, ap₂, subst, append_assoc, arith}
 use Rattle.std.proofs.lemmas.List.{map-append}
 use Rattle.std.proofs.lemmas.Option.{same_Some}
@@ -84,7 +84,7 @@ taken_next losses ring opening order texts outs histories log h place front back
       routed = ap₂ (λ (session number : ℕ). commands_from place session number 0 (route_of_taken e.ring e.what)) own request;
     }
 
--- so the commands to a place are those that the log sent
+-- the commands to a place are those that the log sent
 sent_by : (losses : Losses) (ring : RingState) (opening : CacheState) (order : Order) (texts outs : ℕ → List ℕ) (histories : ℕ → List Entry) (log : Log)
     → Accounts losses ring opening order texts outs histories log → (place : ℕ) (front back : Order) (done es : Log) → IsPart order front back log done es
     → AreSentBy ring texts place done es (commands_to place back)
@@ -119,7 +119,7 @@ follows losses ring opening order texts outs histories log h place none =
       followed.1,
     )
 
--- what a log sent is one list
+-- the commands that a log sent are one list
 next_one : (ring : RingState) (texts : ℕ → List ℕ) (place : ℕ) (done : Log) (client : ℕ) (a b : List Tagged) → TakesNext ring texts place done client a
     → TakesNext ring texts place done client b → a ≡ b
 next_one ring texts place done client a b f g =

@@ -1,4 +1,4 @@
--- What is put out to a client for which nothing is put, or that sent nothing.
+-- The bytes emitted to a client for which nothing is put, or that sent nothing.
 use Rattle.std.proofs.Common.{◌≡◌, ◌∙◌, ℕ, zero, ◌≤◌, List, [], length, take, refl, ap, arith}
 use Rattle.mc_request.specs.Requests.{requests_of, requests_within}
 use Rattle.mc_ring.specs.Rings.{RingState}
@@ -22,7 +22,7 @@ pub nothing_put : (losses : Losses) (ring : RingState) (opening : CacheState) (o
 nothing_put losses ring opening order texts outs histories log h client none =
     h.put client ∙ ap (λ (n : ℕ). answers_by losses (take n (entries_of client order))) none ∙ ap (λ (es : Order). answers_by losses es) (take_none (entries_of client order))
 
--- no answer is put out where no request was sent
+-- no answer is emitted if no request was sent
 pub puts_asked : (losses : Losses) (ring : RingState) (opening : CacheState) (order : Order) (texts outs : ℕ → List ℕ) (histories : ℕ → List Entry) (log : Log)
     → Accounts losses ring opening order texts outs histories log → (client : ℕ) → number_of (puts client) log ≤ length (requests_of (texts client))
 puts_asked losses ring opening order texts outs histories log h client =

@@ -47,7 +47,7 @@ text_read : requests_of (codes "set k 0 0 1\r\nv\r\nget k\r\n") ≡ set_asked �
 unfolding words line_end first_line name_of next_request requests_within requests_of
 text_read = refl
 
--- what was taken, and what it was replied
+-- the requests that were taken, and their replies
 abbrev asked_as : ℕ → Taken → AReply (List ℕ) → AskedFor
 asked_as request what reply =
     record { session = 0; request = request; what = what; ring = one_server; losses = Told; outcomes = outcomes.Reply reply ∷ [] }
@@ -61,7 +61,7 @@ second = asked_as 1 get_asked Miss
 abbrev pub restart_order : Order
 restart_order = first ∷ second ∷ []
 
--- what the server took in both its lives
+-- the entries of the server in both its lives
 abbrev missed : Entry
 missed = record { client = 0; request = 1; atom = 0; moment = 5; refused = false; reply = spelling_of get_key Miss }
 
@@ -72,7 +72,7 @@ abbrev pub restart_log : Log
 restart_log =
     takes_one ∷ serves_one ∷ puts_one ∷ loses_one ∷ Restarted 0 ∷ returns_one ∷ takes_one ∷ Happened (ServerTurn 0 2 5) ∷ puts_one ∷ []
 
--- what a client has of it
+-- the requests of a client in it
 abbrev mine : Bool → Order
 mine v = if v then first ∷ (if v then second ∷ [] else []) else (if v then second ∷ [] else [])
 
@@ -157,7 +157,7 @@ known tag place atom outcome at became =
       became = ap (λ (x : AskedFor). slice_get x.outcomes tag.atom) (sym same) ∙ told.2;
     }
 
--- its replies are in the history, and nothing is lost
+-- its replies are in the history, and no command is lost
 replied_by : (tag : Tag) (place : ℕ) (atom : Atom (List ℕ)) (reply : AReply (List ℕ)) → command_at restart_order tag ≡ Some (to_place place atom)
     → outcome_at restart_order tag ≡ Some (outcomes.Reply reply) → HasReply (first_only restart_history place) tag (spelling_of atom reply)
 replied_by tag place atom reply at became =
@@ -180,7 +180,7 @@ lost_by tag place atom at became =
       | inr h ↦ absurd (true≢false (ap is_lost (outcome_of k.asked second (outcomes.Reply Miss) outcomes.Lost tag.atom h.1 refl k.became)))
     ]
 
--- what it took in its first life, in its second, and in no other
+-- the entries of its first life, of its second, and of no other
 nothing_left : {X : Type 0} (n m : ℕ) → ◌≡◌ {A = List X} (drop n (take m [])) []
 nothing_left zero zero = refl
 nothing_left zero (suc m) = refl
@@ -279,7 +279,7 @@ restart_accounts losses = record {
       );
 }
 
--- what the client is answered
+-- the answers to the client
 pub restart_answers : (losses : Losses) → outs_of losses restart_order restart_log 0 ≡ codes "STORED\r\nEND\r\n"
 restart_answers losses = refl
 

@@ -1,4 +1,4 @@
--- What the order of an account has is what clients sent, and the other way round.
+-- The order of an account has the requests that clients sent, and no others.
 use Rattle.std.proofs.Common.{◌≡◌, ◌∙◌, ℕ, zero, suc, ◌-◌, ◌<◌, ◌≤◌, List, [], ◌∷◌, length, take, drop, Option, None, Some, slice_get, refl, sym, ap, ap₂, subst, arith}
 use Rattle.std.proofs.lemmas.List.{length-append, length-map}
 use Rattle.std.proofs.lemmas.Option.{none-some, same_Some}
@@ -26,7 +26,7 @@ use Rattle.mc_world.proofs.LogOrderLemmas.{turns-taken}
 use Rattle.mc_pool_laws.specs.Sent.{IsReplayed, IsSent, IsTaken}
 use Rattle.mc_pool_laws.proofs.OneRing.{ring_one}
 
--- no more requests were taken than a client sent
+-- at most as many requests were taken as a client sent
 pub taken_few : (losses : Losses) (ring : RingState) (opening : CacheState) (order : Order) (texts outs : ℕ → List ℕ) (histories : ℕ → List Entry) (log : Log)
     → Accounts losses ring opening order texts outs histories log → (client : ℕ) → number_of (takes client) log ≤ length (requests_of (texts client))
 taken_few losses ring opening order texts outs histories log h client =
@@ -34,7 +34,7 @@ taken_few losses ring opening order texts outs histories log h client =
     let turns = turns-taken order log h.turns client in
     grind (arith, length-append, length-map)
 
--- what the order has of a client is the request of its number in the client's text
+-- a request of a client in the order is the one of its number in the client's text
 sent_in_text : (losses : Losses) (ring : RingState) (opening : CacheState) (order : Order) (texts outs : ℕ → List ℕ) (histories : ℕ → List Entry) (log : Log)
     → Accounts losses ring opening order texts outs histories log → (client request : ℕ) (e : Asked) → asked_at order client request ≡ Some e
     → slice_get (requests_of (texts client)) request ≡ Some e.what
@@ -55,7 +55,7 @@ entry_taken losses ring opening order texts outs histories log h client request 
       then = h.rings client request e at;
     }
 
--- no more requests were answered than taken
+-- at most as many requests were answered as taken
 no_more : (answered taken : ℕ) → ((request : ℕ) → request < answered → request < taken) → answered ≤ taken
 no_more zero taken each = omega arith
 no_more (suc n) taken each = each n (omega arith)
@@ -141,7 +141,7 @@ legal_at order place s [] (suc k) e legal at = absurd (none-some e at)
 legal_at order place s (x ∷ xs) zero e legal at = (legal.0, ap (λ (d : Entry). command_at order (tag_in d)) (sym (same_Some x e at)) ∙ legal.1)
 legal_at order place s (x ∷ xs) (suc k) e legal at = legal_at order place (step_of s legal.0 x.moment x.refused).0 xs k e legal.3 at
 
--- and so is each entry of a history, in whichever life
+-- likewise for each entry of a history, in whichever life
 pub entry_named : (losses : Losses) (ring : RingState) (opening : CacheState) (order : Order) (texts outs : ℕ → List ℕ) (histories : ℕ → List Entry) (log : Log)
     → Accounts losses ring opening order texts outs histories log → (place k : ℕ) (e : Entry) → slice_get (histories place) k ≡ Some e
     → (atom : Atom (List ℕ)) × (command_at order (tag_in e) ≡ Some (to_place place atom))
@@ -151,7 +151,7 @@ entry_named losses ring opening order texts outs histories log h place k e at =
     legal_at order place opening (in_life place of.life log (histories place)) (k - taken_before place of.life log) e (h.legal place of.life)
     (got_in_life place k log (histories place) of ∙ at)
 
--- what was taken in the life of the first entry
+-- the entries of the life of the first entry
 legal_first : (order : Order) (place : ℕ) (opening : CacheState) (log : Log) (e : Entry) (es : List Entry) → 0 < number_of (serves place) log
     → ((life : ℕ) → IsLegal order place opening (in_life place life log (e ∷ es))) → (n : ℕ) × IsLegal order place opening (e ∷ take n es)
 legal_first order place opening log e es some legal =
@@ -164,7 +164,7 @@ legal_first order place opening log e es some legal =
       subst (λ (fs : List Entry). IsLegal order place opening fs) (ap₂ (λ (a b : ℕ). drop a (take b (e ∷ es))) begins ends) (legal of.life),
     )
 
--- the first entry of a history is answered what the opening cache replies to its command
+-- the answer of the first entry of a history is the reply of the opening cache to its command
 pub first_reply : (losses : Losses) (ring : RingState) (opening : CacheState) (order : Order) (texts outs : ℕ → List ℕ) (histories : ℕ → List Entry) (log : Log)
     → Accounts losses ring opening order texts outs histories log → (place : ℕ) (atom : Atom (List ℕ)) (e : Entry) (es : List Entry) → histories place ≡ e ∷ es
     → IsSent ring texts log (tag_in e) (to_place place atom) → e.reply ≡ spelling_of atom (step_of opening atom e.moment e.refused).1

@@ -1,4 +1,5 @@
--- Runs of which all clauses of an account hold but one, and whose history does not follow the proxy: two commands on one link are exchanged.
+-- Runs of which all clauses of an account hold except one, and whose history does not follow the proxy: two commands on one link are
+-- exchanged.
 use Rattle.std.proofs.Common.{◌≡◌, ◌≢◌, ◌∙◌, ℕ, zero, suc, ◌==◌, ◌⊎◌, inl, inr, Bool, true, false, if◌then◌else◌, List, [], ◌∷◌, ◌++◌, map, Some, slice_get, refl, sym, ap, ap₂, subst, arith}
 use Rattle.std.specs.Prelude.{codes}
 use Rattle.std.proofs.lemmas.Bool.{false≢true, true≢false}
@@ -33,7 +34,7 @@ use Rattle.mc_pool_laws.specs.Without.{AccountsBut, Allows, Clause, Followed, Nu
 use Rattle.mc_pool_laws.proofs.NeedLemmas.{Follows, a_cache, first_only, first_there, flush, flush_asked, is_lost, is_reply, lives_of_first, none_complete, none_out, one_here, one_server, outcome_in_request, serves_one, takes_one}
 use Rattle.mc_pool_laws.proofs.OrderExample.{two_here, two_read, two_text}
 
--- a flush of a client, that awaits its reply, and its entry
+-- a flush of a client, which awaits its reply, and its entry
 abbrev flush_by : ℕ → ℕ → AskedFor
 flush_by client request = record { session = client; request = request; what = flush_asked; ring = one_server; losses = Told; outcomes = outcomes.Awaited ∷ [] }
 
@@ -67,7 +68,7 @@ flush_each x y client request e hx hy at = elim (asked_each x y client request e
   | inr same ↦ subst (λ (z : AskedFor). IsFlush z) (sym same) hy
 ]
 
--- nothing has become of any command
+-- no command has an outcome
 awaits : (x y : AskedFor) (tag : Tag) (q : Outcome) → IsFlush x → IsFlush y → outcome_at (x ∷ y ∷ []) tag ≡ Some q → q ≡ outcomes.Awaited
 awaits x y tag q hx hy became =
     let found = outcome_in_request (asked_at (x ∷ y ∷ []) tag.session tag.request) tag.atom q became in
@@ -114,7 +115,7 @@ taken_each : (x y : Entry) (k : ℕ) (e : Entry) (log : Log) → WasTaken (tag_i
     → slice_get (x ∷ y ∷ []) k ≡ Some e → WasTaken (tag_in e) (before (serves 0) k log)
 taken_each x y k e log first second at = grind (arith, two_here)
 
--- such a run, by whose the requests are and which, in the order and in the history
+-- such a run, by the clients and numbers of its requests, in the order and in the history
 stray_but : (one : Clause) (losses : Losses) (a m b n p q r s second : ℕ)
     → (one ≢ Turns → a ∷ b ∷ [] ≡ 0 ∷ second ∷ [])
     → (one ≢ Numbered → (client : ℕ) → AreInOrder (entries_of client (flush_by a m ∷ flush_by b n ∷ [])))
@@ -157,7 +158,7 @@ stray_but one losses a m b n p q r s second turns numbered followed legal apart 
       unanswered = λ keeps place k e at reply became. absurd (true≢false (ap is_reply (waits (tag_in e) (outcomes.Reply reply) became)));
     }
 
--- what was sent first is the first command of client 0
+-- the first command that was sent is the first command of client 0
 first_sent : (es : Log) (sent : List Tagged) → AreSentBy one_server two_text 0 [] (takes_one ∷ es) sent → slice_get (tags_of sent) 0 ≡ Some (tag_of 0 0 0)
 first_sent es sent h =
     let takes = h.2 in
@@ -187,7 +188,7 @@ stray one a m b n p q r s second but differ losses = (
   (refl, strays (Happened (ProxyTurn second) ∷ serves_one ∷ serves_one ∷ []) (entry_by p q) (entry_by r s ∷ []) differ),
 )
 
--- each legal of a flush
+-- two entries that are each legal for a flush
 legal_two : (order : Order) (p q r s : ℕ) → command_at order (tag_of p q 0) ≡ Some (to_place 0 flush) → command_at order (tag_of r s 0) ≡ Some (to_place 0 flush)
     → IsLegal order 0 a_cache (entry_by p q ∷ entry_by r s ∷ [])
 legal_two order p q r s first second = (
@@ -227,13 +228,13 @@ without_followed = stray Followed 0 0 1 0 1 0 0 0 1
     (λ losses. stray_but Followed losses 0 0 1 0 1 0 0 0 1 (λ keeps. refl) (λ keeps client. numbered_two 0 1 client apart_two) (λ keeps. absurd (keeps refl))
     (legal_two (flush_by 0 0 ∷ flush_by 1 0 ∷ []) 1 0 0 0 refl refl) other_client (omega arith) (omega arith)) other_client
 
--- the order has it first, and the log has the other turn first
+-- the order has that command first, and the log has the other turn first
 pub without_turns_in_order : Stray Turns
 without_turns_in_order = stray Turns 1 0 0 0 1 0 0 0 1
     (λ losses. stray_but Turns losses 1 0 0 0 1 0 0 0 1 (λ keeps. absurd (keeps refl)) (λ keeps client. numbered_two 1 0 client (λ same. apart_two (sym same))) (λ keeps. (refl, refl))
     (legal_two (flush_by 1 0 ∷ flush_by 0 0 ∷ []) 1 0 0 0 refl refl) other_client (omega arith) (omega arith)) other_client
 
--- the order numbers the requests of a client the other way round
+-- the order numbers the requests of a client in reverse order
 pub without_numbered : Stray Numbered
 without_numbered = stray Numbered 0 1 0 0 0 1 0 0 0
     (λ losses. stray_but Numbered losses 0 1 0 0 0 1 0 0 0 (λ keeps. refl) (λ keeps. absurd (keeps refl)) (λ keeps. (refl, refl))

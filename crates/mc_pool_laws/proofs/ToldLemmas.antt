@@ -1,4 +1,4 @@
--- What became of the commands of answered requests, and the answers that were put out.
+-- The outcomes of the commands of answered requests, and the answers that were emitted.
 use Rattle.std.proofs.Common.{◌≡◌, ◌∙◌, ℕ, zero, suc, ◌+◌, ◌<◌, ◌==◌, ◌&&◌, Bool, true, false, if◌then◌else◌, List, [], ◌∷◌, ◌++◌, length, map, take, Option, Some, slice_get, refl, sym, ap, subst, length-take-le, arith}
 use Rattle.std.specs.List.{concat, list_all}
 use Rattle.std.specs.Prelude.{All}
@@ -25,7 +25,7 @@ use Rattle.mc_world.proofs.LogEntryLemmas.{got_inside, got_some}
 use Rattle.mc_pool_laws.specs.Told.{AreAnswersFrom, AreToldBy, IsAnswerTo, IsToldBy, WasAnswered}
 use Rattle.mc_pool_laws.proofs.SentLemmas.{entry_taken, in_request, puts_few}
 
--- what passes in a list
+-- tests that pass for a list
 both_left : (x y : Bool) → (x && y) ≡ true → x ≡ true
 both_left true y h = refl
 both_left false y h = h
@@ -40,7 +40,7 @@ passes_at test [] (suc k) x all at = absurd (none-some x at)
 passes_at test (y ∷ ys) zero x all at = ap test (sym (same_Some y x at)) ∙ both_left (test y) (list_all test ys) all
 passes_at test (y ∷ ys) (suc k) x all at = passes_at test ys k x (both_right (test y) (list_all test ys) all) at
 
--- what is in a front, and what of a list is there
+-- elements of a front of a list, and of the list
 got_taken : {X : Type 0} (n : ℕ) (xs : List X) (k : ℕ) (x : X) → k < n → slice_get xs k ≡ Some x → slice_get (take n xs) k ≡ Some x
 got_taken n [] zero x inside at = absurd (none-some x at)
 got_taken n [] (suc k) x inside at = absurd (none-some x at)
@@ -72,7 +72,7 @@ sized_at client (x ∷ xs) k e sized at =
     sized_by (entries_of client xs) x (x.session == client) k e (All-head IsSized x xs sized)
     (λ j here. sized_at client xs j e (All-tail IsSized x xs sized) here) at
 
--- of a command of an answered request it is known what became of it
+-- the outcome of a command of an answered request is known
 pub known_at : (losses : Losses) (ring : RingState) (opening : CacheState) (order : Order) (texts outs : ℕ → List ℕ) (histories : ℕ → List Entry) (log : Log)
     → Accounts losses ring opening order texts outs histories log → (tag : Tag) (command : Routed) → command_at order tag ≡ Some command → WasAnswered tag log
     → (outcome : Outcome) × (outcome_at order tag ≡ Some outcome) × (is_told outcome ≡ true)
@@ -87,7 +87,7 @@ known_at losses ring opening order texts outs histories log h tag command at ans
     (got_taken (number_of (puts tag.session) log) (entries_of tag.session order) tag.request e answered found.1) in
     (outcome.0, ap (λ (o : Option Asked). outcome_in o tag.atom) found.1 ∙ outcome.1, passes_at is_told e.outcomes tag.atom outcome.0 complete outcome.1)
 
--- and the histories and the log tell it
+-- the histories and the log show it
 pub told_by : (losses : Losses) (ring : RingState) (opening : CacheState) (order : Order) (texts outs : ℕ → List ℕ) (histories : ℕ → List Entry) (log : Log)
     → Accounts losses ring opening order texts outs histories log → (tag : Tag) (command : Routed) (outcome : Outcome) → command_at order tag ≡ Some command
     → outcome_at order tag ≡ Some outcome → is_told outcome ≡ true → IsToldBy histories log tag command outcome
@@ -95,7 +95,7 @@ told_by losses ring opening order texts outs histories log h tag command (Reply 
 told_by losses ring opening order texts outs histories log h tag command Lost at became told = h.lost tag command.server command.atom at became
 told_by losses ring opening order texts outs histories log h tag command Awaited at became told = absurd (false≢true told)
 
--- of all commands of a request
+-- likewise for all commands of a request
 are_told : (histories : ℕ → List Entry) (log : Log) (client request at : ℕ) (commands : List Routed) (outcomes : List Outcome) → length outcomes ≡ length commands
     → ((k n : ℕ) (command : Routed) (outcome : Outcome) → n ≡ at + k → slice_get commands k ≡ Some command → slice_get outcomes k ≡ Some outcome
     → IsToldBy histories log (tag_of client request n) command outcome)
@@ -109,7 +109,7 @@ are_told histories log client request at (c ∷ cs) (o ∷ os) size each = (
       (λ k n command outcome is there became. each (suc k) n command outcome (omega (arith, is)) there became),
 )
 
--- the answer to a request of which all is known
+-- the answer to a request whose outcomes are all known
 pub answer_to : (losses : Losses) (ring : RingState) (opening : CacheState) (order : Order) (texts outs : ℕ → List ℕ) (histories : ℕ → List Entry) (log : Log)
     → Accounts losses ring opening order texts outs histories log → (client request : ℕ) (e : Asked) → asked_at order client request ≡ Some e → is_complete e ≡ true
     → IsAnswerTo losses ring texts histories log client request (answer_by losses e.what e.outcomes)
@@ -130,7 +130,7 @@ answer_to losses ring opening order texts outs histories log h client request e 
       bytes = refl;
     }
 
--- answers, one after another
+-- answers, in sequence
 answers_from : (losses : Losses) (ring : RingState) (texts : ℕ → List ℕ) (histories : ℕ → List Entry) (log : Log) (client request : ℕ) (es : Order)
     → ((k n : ℕ) (e : Asked) → n ≡ request + k → slice_get es k ≡ Some e → IsAnswerTo losses ring texts histories log client n (answer_by losses e.what e.outcomes))
     → AreAnswersFrom losses ring texts histories log client request (map (λ (e : Asked). answer_by losses e.what e.outcomes) es)
@@ -144,7 +144,7 @@ answers_join : (losses : Losses) (es : Order) → answers_by losses es ≡ conca
 answers_join losses [] = refl
 answers_join losses (e ∷ es) = ap (λ (bytes : List ℕ). answer_by losses e.what e.outcomes ++ bytes) (answers_join losses es)
 
--- what was put out to a client
+-- the bytes that were emitted to a client
 pub put_answers : (losses : Losses) (ring : RingState) (opening : CacheState) (order : Order) (texts outs : ℕ → List ℕ) (histories : ℕ → List Entry) (log : Log)
     → Accounts losses ring opening order texts outs histories log → (client : ℕ)
     → (answers : List (List ℕ)) × (length answers ≡ number_of (puts client) log) × (outs client ≡ concat answers)

@@ -1,4 +1,4 @@
--- Memory is refused only to commands that want it.
+-- Memory is refused only to commands that need it.
 use Rattle.std.proofs.Common.{◌≡◌, ℕ, ℤ, ◌⊎◌, inl, inr, true, List, [], ◌∷◌, Option, None, Some, is_none, refl}
 use Rattle.std.proofs.lemmas.Bool.{and_parts, false≢true}
 use Rattle.mc_item.specs.declared.bodies.Body.{Body}
@@ -22,7 +22,7 @@ use Rattle.mc_world.specs.Logs.{Log}
 use Rattle.mc_pool_laws.specs.Sent.{IsReplayed}
 use Rattle.mc_pool_laws.specs.Wanted.{AreWanted, WantsMemory, may_lengthen, may_store}
 
--- a storage command, by what is held under its key
+-- a storage command, by the item under its key
 by_mode : (mode : StoreMode) (held : Option Body) (compare : Option ℕ) (key : List ℕ) (flags : ℕ) (exptime : ℤ) (block : List ℕ) → mode_may_refuse mode held block ≡ true
     → (held ≡ None) ⊎ (may_lengthen (Store mode compare key flags exptime block) ≡ true)
 by_mode mode None compare key flags exptime block h = inl refl
@@ -32,7 +32,7 @@ by_mode Set (Some body) compare key flags exptime block h = absurd (false≢true
 by_mode Add (Some body) compare key flags exptime block h = absurd (false≢true h)
 by_mode Replace (Some body) compare key flags exptime block h = absurd (false≢true h)
 
--- a command that may change what is held, on a settled cache
+-- a command that may change the stored item, on a settled cache
 record Wants (t : CacheState) (update : Update (List ℕ) (List ℕ)) : Type 0 where
   pub stores : may_store update ≡ true
   pub grows : (held_under (key_in update) t ≡ None) ⊎ (may_lengthen update ≡ true)
@@ -63,7 +63,7 @@ wants s (atoms.Meta (metas.Update update show)) moment h =
     let w = by_update (settled s (key_in update) moment) update h in
     record { exact = h; stores = w.stores; grows = w.grows }
 
--- so of each entry of a history
+-- this holds of each entry of a history
 pub are_wanted : (ring : RingState) (texts : ℕ → List ℕ) (log : Log) (place : ℕ) (s : CacheState) (es : List Entry) → IsReplayed ring texts log place s es → AreWanted ring texts log place s es
 are_wanted ring texts log place s [] h = tt
 are_wanted ring texts log place s (e ∷ es) h =

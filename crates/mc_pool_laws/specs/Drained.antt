@@ -4,8 +4,8 @@ use Rattle.mc_world.specs.declared.events.Event.TheVariants.{ClientTakes, Emit, 
 use Rattle.mc_world.specs.declared.logs.Logged.{Logged}
 use Rattle.mc_world.specs.declared.logs.Logged.TheVariants.{Happened}
 
--- A turn of the proxy, of a server at this moment, bytes that move, a reply that is taken, an answer that is put out or taken, and the end of a
--- lost generation. No client sends or goes, no link is lost or comes back, and no server joins or restarts.
+-- A turn of the proxy, of a server at this moment, bytes that move, a reply that is taken, an answer that is emitted or taken, and the end of a
+-- lost generation. No client sends or goes, no link is lost or comes up, and no server joins or restarts.
 abbrev pub is_of_drain_at : ℕ → Logged → Bool
 is_of_drain_at moment (Happened (ProxyTurn client)) = true
 is_of_drain_at moment (Happened (ToServer server generation count)) = true

@@ -1,4 +1,5 @@
--- What all servers executed, in one order: that of their turns in the log. All of it is this project's own.
+-- The commands that all servers executed, in one order: that of their turns in the log. All of it is this
+-- project's own.
 use Rattle.std.specs.Prelude.{ℕ, ◌==◌, List, [], ◌∷◌, ◌++◌, drop, if◌then◌else◌, Option, Some, None, slice_get}
 use Rattle.std.specs.Option.{option_map}
 use Rattle.mc_request.specs.declared.parts.Taken.{Taken}
@@ -18,11 +19,11 @@ use Rattle.mc_world.specs.declared.logs.Logged.{Logged}
 use Rattle.mc_world.specs.declared.logs.Logged.TheVariants.{Happened}
 use Rattle.mc_world.specs.Logs.{Log}
 
--- where commands are looked up by their tags: in an order (`command_at`), or in what clients sent (`sent_at`)
+-- a way to look up commands by their tags: in an order (`command_at`), or in what clients sent (`sent_at`)
 abbrev pub LookUp : Type 0
 LookUp = Tag → Option Routed
 
--- of a request that a client sent the command of a number, by the ring
+-- the command of a number of a request that a client sent, by the ring
 abbrev pub command_sent : RingState → Option Taken → ℕ → Option Routed
 command_sent ring None atom = None
 command_sent ring (Some what) atom = slice_get (route_of_taken ring what) atom
@@ -31,15 +32,15 @@ command_sent ring (Some what) atom = slice_get (route_of_taken ring what) atom
 abbrev pub sent_at : RingState → (ℕ → List ℕ) → LookUp
 sent_at ring texts tag = command_sent ring (slice_get (requests_of (texts tag.session)) tag.request) tag.atom
 
--- a command as an entry tells of it: its moment, and whether memory was refused to it
+-- a command as an entry records it: its moment, and whether memory was refused to it
 abbrev pub told_in : Entry → Routed → Command
 told_in e command = record { atom = command.atom; moment = e.moment; refused = e.refused }
 
--- the command of an entry: there is none where none is found by its tag
+-- the command of an entry: none if none is found by its tag
 abbrev pub command_of : LookUp → Entry → Option Command
 command_of look e = option_map (told_in e) (look (tag_in e))
 
--- one command more, if there is one
+-- the list with one more command, if there is one
 abbrev pub with_command : Option Command → List Command → List Command
 with_command None commands = commands
 with_command (Some command) commands = command ∷ commands
@@ -76,7 +77,7 @@ merged commands (place ∷ places) = first_at place (commands place) ++ merged (
 abbrev pub executed : LookUp → (ℕ → List Entry) → Log → List Executed
 executed look histories log = merged (λ place. commands_of look (histories place)) (turns_of log)
 
--- how the replies to commands are spelled, one for each
+-- the encodings of the replies to commands, one for each
 abbrev pub told_by : List Command → List (Reply (List ℕ)) → List (List ℕ)
 told_by [] replies = []
 told_by (command ∷ commands) [] = []

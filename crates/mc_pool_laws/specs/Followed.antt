@@ -1,5 +1,5 @@
--- What a proxy sent to a server, in the order in which it took the requests, as the clients' texts and the log tell it. All of it is this
--- project's own.
+-- The commands that a proxy sent to a server, in the order in which it took the requests, as the clients' texts and the log show them.
+-- All of it is this project's own.
 use Rattle.std.specs.Prelude.{ℕ, ◌≡◌, List, [], ◌∷◌, ◌++◌, map, Some, slice_get}
 use Rattle.mc_request.specs.declared.parts.Taken.{Taken}
 use Rattle.mc_request.specs.Requests.{requests_of}
@@ -15,7 +15,8 @@ use Rattle.mc_history.specs.declared.entries.Entry.{Entry}
 use Rattle.mc_history.specs.Histories.{tag_in}
 use Rattle.mc_history.specs.Named.{tags_of}
 
--- a turn of a client, after what was done, takes its next request, by the ring of then: these of its commands go to the server of a place
+-- a turn of a client, after what was done, takes its next request, by the ring of that moment: these of its commands go to the server of
+-- a place
 pub record TakesNext (opening : RingState) (texts : ℕ → List ℕ) (place : ℕ) (done : Log) (client : ℕ) (commands : List Tagged) : Type 0 where
   pub what : Taken
   pub ring : RingState
@@ -23,12 +24,12 @@ pub record TakesNext (opening : RingState) (texts : ℕ → List ℕ) (place : �
   pub then : IsRingAfter opening done ring
   pub routed : commands ≡ commands_from place client (number_of (takes client) done) 0 (route_of_taken ring what)
 
--- what is sent to it by what is done next: nothing but by a turn of the proxy
+-- the commands that the next entry sends to the server: none except by a turn of the proxy
 abbrev pub IsSentBy : RingState → (ℕ → List ℕ) → ℕ → Log → Logged → List Tagged → Type 0
 IsSentBy opening texts place done (Happened (ProxyTurn client)) commands = TakesNext opening texts place done client commands
 IsSentBy opening texts place done other commands = commands ≡ []
 
--- and by all that is done then, in its order
+-- the commands that all following entries send, in their order
 abbrev pub AreSentBy : RingState → (ℕ → List ℕ) → ℕ → Log → Log → List Tagged → Type 0
 AreSentBy opening texts place done [] commands = commands ≡ []
 AreSentBy opening texts place done (e ∷ es) commands =

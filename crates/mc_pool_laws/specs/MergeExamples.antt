@@ -39,7 +39,7 @@ abbrev pub two_histories : ℕ → List Entry
 two_histories place =
     if place == 0 then entry_of 8 0 5 (codes "OK\r\n") ∷ entry_of 7 0 9 (codes "STORED\r\n") ∷ [] else entry_of 8 1 6 (codes "OK\r\n") ∷ []
 
--- their turns, that of the second between those of the first
+-- their turns; that of the second is between those of the first
 abbrev pub three_turns : Log
 three_turns =
     Happened (ProxyTurn 7) ∷ Happened (ProxyTurn 8) ∷ Happened (ServerTurn 0 1 5) ∷ Happened (ServerTurn 1 1 6) ∷ Happened (ServerTurn 0 1 9) ∷ []

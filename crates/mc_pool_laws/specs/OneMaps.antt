@@ -15,7 +15,7 @@ use Rattle.mc_world.specs.Steps.{GivesAccount}
 use Rattle.mc_world.specs.Worlds.{WorldState, cache_of, history_of, put_out_of, text_of}
 use Rattle.mc_pool_laws.specs.Executions.{LookUp, commands_of, executed, sent_at, told_by}
 
--- what lets a server join
+-- an entry that lets a server join
 abbrev pub joins : Logged → Bool
 joins (Happened event) = false
 joins (Joined server address) = true
@@ -28,21 +28,21 @@ pub record IsPlainRun (opening : CacheState) (look : LookUp) (histories : ℕ �
   pub alive : (place : ℕ) → number_of (restarts place) log ≡ 0
   pub plain : (place : ℕ) → ArePlainSteps opening (commands_of look (histories place))
 
--- All histories together are those of one map. What all servers executed has each server's commands, in the order of its history. Each
--- is answered what the map answers, in the order of all; and so the replies of each history are spelled.
+-- All histories together are those of one map. The commands that all servers executed contain each server's commands, in the order of its history.
+-- Each is answered what the map answers, in the order of all; and the replies of each history are encoded so.
 pub record AreOfOneMap (owner : List ℕ → ℕ) (caches : Caches) (look : LookUp) (histories : ℕ → List Entry) (log : Log) : Type 0 where
   pub all : (place : ℕ) → commands_at place (executed look histories log) ≡ commands_of look (histories place)
   pub act : ActAsMap owner empty_map caches (executed look histories log)
   pub told : (place : ℕ) → map (λ (e : Entry). e.reply) (histories place)
       ≡ told_by (commands_of look (histories place)) (replies_at place (executed look histories log) (map_replies empty_map (executed look histories log)))
 
--- where the run is plain, the histories are those of one map, from caches that hold nothing and have these bounds
+-- if the run is plain, the histories are those of one map, from empty caches with these bounds
 abbrev pub ArePlainlyOfOneMap : RingState → ℕ → ℕ → LookUp → (ℕ → List Entry) → Log → Type 0
 ArePlainlyOfOneMap ring budget items look histories log =
     IsPlainRun (opening_cache budget items 0) look histories log → AreOfOneMap (owner_in ring) (opening_caches budget items 0) look histories log
 
--- A world gives account. Where its run is plain, its histories are those of one map; be the commands looked up in what its clients sent,
--- or in any order by which it gives account.
+-- A world gives account. If its run is plain, its histories are those of one map. The commands may be looked up in what its clients sent, or in any
+-- order by which it gives account.
 pub record ActsAsOneMap (w : WorldState) : Type 0 where
   pub account : GivesAccount w
   pub by_texts : ArePlainlyOfOneMap w.opening w.budget w.items (sent_at w.opening (text_of w.course)) (history_of w.course) w.course.log

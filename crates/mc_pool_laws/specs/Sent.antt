@@ -1,4 +1,4 @@
--- What a client's text and the log say of a command, by its tag. All of it is this project's own.
+-- What a client's text and the log show of a command, by its tag. All of it is this project's own.
 use Rattle.std.specs.Prelude.{ℕ, ◌≡◌, ◌<◌, List, [], ◌∷◌, Some, slice_get}
 use Rattle.mc_request.specs.declared.parts.Atom.{Atom}
 use Rattle.mc_request.specs.declared.parts.Taken.{Taken}
@@ -26,8 +26,8 @@ pub record IsSent (opening : RingState) (texts : ℕ → List ℕ) (log : Log) (
   pub taken : IsTaken opening texts log tag.session tag.request what ring
   pub routed : slice_get (route_of_taken ring what) tag.atom ≡ Some command
 
--- A cache replays a history: each of its entries is of a command that its client sent to this server, and is answered what the cache
--- replies there, which the entry before has left. Memory is refused only where that may be.
+-- A cache replays a history: each of its entries is of a command that its client sent to this server, and its answer is the reply of
+-- the cache that the entry before has left. Memory is refused only if that may be.
 abbrev pub IsReplayed : RingState → (ℕ → List ℕ) → Log → ℕ → CacheState → List Entry → Type 0
 IsReplayed opening texts log place s [] = Unit {0}
 IsReplayed opening texts log place s (e ∷ es) =

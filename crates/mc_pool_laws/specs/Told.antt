@@ -1,4 +1,4 @@
--- What became of a command, and what its client was answered, as the histories and the log tell it. All of it is this project's own.
+-- The outcome of a command, and the answer to its client, as the histories and the log show them. All of it is this project's own.
 use Rattle.std.specs.Prelude.{ℕ, ◌≡◌, ◌<◌, ◌⊎◌, suc, List, [], ◌∷◌, Some, slice_get}
 use Rattle.mc_request.specs.declared.parts.Taken.{Taken}
 use Rattle.mc_reply.specs.Spelling.{spelling_of}
@@ -35,7 +35,8 @@ HasOneEntry histories place tag =
     (k : ℕ) × (e : Entry) × (slice_get (histories place) k ≡ Some e) × (tag_in e ≡ tag)
     × ((other j : ℕ) (d : Entry) → slice_get (histories other) j ≡ Some d → tag_in d ≡ tag → (other ≡ place) × (j ≡ k))
 
--- a command of an answered request that was sent, and of which neither its server's history nor a loss in the log tells
+-- a command of an answered request that was sent, and for which there is neither an entry in its server's history nor a loss in the
+-- log
 pub record IsUnaccounted (opening : RingState) (texts : ℕ → List ℕ) (histories : ℕ → List Entry) (log : Log) : Type 0 where
   pub tag : Tag
   pub command : Routed
@@ -43,13 +44,13 @@ pub record IsUnaccounted (opening : RingState) (texts : ℕ → List ℕ) (histo
   pub answered : WasAnswered tag log
   pub untold : HasEntry (histories command.server) tag ⊎ IsToldLost command.server tag (histories command.server) log → ⊥
 
--- this became of a command: its server's history has its entry with this reply, or it is lost, and the log tells so
+-- the outcome of a command: its server's history has its entry with this reply, or it is lost, and the log shows the loss
 abbrev pub IsToldBy : (ℕ → List Entry) → Log → Tag → Routed → Outcome → Type 0
 IsToldBy histories log tag command (Reply reply) = HasReply (histories command.server) tag (spelling_of command.atom reply)
 IsToldBy histories log tag command Lost = IsToldLost command.server tag (histories command.server) log
 IsToldBy histories log tag command Awaited = ⊥
 
--- the same of commands of one request, one after another, the first of them being that of a number
+-- the outcomes of the commands of one request, in sequence, the first of which has this number
 abbrev pub AreToldBy : (ℕ → List Entry) → Log → ℕ → ℕ → ℕ → List Routed → List Outcome → Type 0
 AreToldBy histories log client request at [] [] = Unit {0}
 AreToldBy histories log client request at [] (outcome ∷ outcomes) = ⊥
@@ -57,7 +58,7 @@ AreToldBy histories log client request at (command ∷ commands) [] = ⊥
 AreToldBy histories log client request at (command ∷ commands) (outcome ∷ outcomes) =
     IsToldBy histories log (tag_of client request at) command outcome × AreToldBy histories log client request (suc at) commands outcomes
 
--- the answer to a client's request of a number, by a choice for lost commands, and by what became of its commands
+-- the answer to a client's request of a number, by a choice for lost commands, and by the outcomes of its commands
 pub record IsAnswerTo (losses : Losses) (opening : RingState) (texts : ℕ → List ℕ) (histories : ℕ → List Entry) (log : Log) (client request : ℕ) (answer : List ℕ) : Type 0 where
   pub what : Taken
   pub ring : RingState
@@ -66,7 +67,7 @@ pub record IsAnswerTo (losses : Losses) (opening : RingState) (texts : ℕ → L
   pub told : AreToldBy histories log client request 0 (route_of_taken ring what) outcomes
   pub bytes : answer ≡ answer_by losses what outcomes
 
--- the answers to a client's requests, one after another, the first of them being that to the request of a number
+-- the answers to a client's requests, in sequence, the first of which is to the request of this number
 abbrev pub AreAnswersFrom : Losses → RingState → (ℕ → List ℕ) → (ℕ → List Entry) → Log → ℕ → ℕ → List (List ℕ) → Type 0
 AreAnswersFrom losses opening texts histories log client request [] = Unit {0}
 AreAnswersFrom losses opening texts histories log client request (answer ∷ answers) =

@@ -1,4 +1,4 @@
--- Commands for which a server may want memory: this project's own.
+-- Commands for which a server may need memory: this project's own.
 use Rattle.std.specs.Prelude.{ℕ, ◌≡◌, ◌⊎◌, Bool, true, false, nat_lt, List, [], ◌∷◌, length, None}
 use Rattle.mc_request.specs.declared.meta.MetaCommand.TheVariants as metas
 use Rattle.mc_request.specs.declared.parts.Atom.{Atom}
@@ -17,7 +17,7 @@ use Rattle.mc_history.specs.Histories.{tag_in}
 use Rattle.mc_world.specs.Logs.{Log}
 use Rattle.mc_pool_laws.specs.Sent.{IsSent}
 
--- a command that may make a held value longer: an append or a prepend of some bytes, or a count
+-- a command that may make a stored value longer: an append or a prepend of some bytes, or a count
 abbrev pub may_lengthen : Update (List ℕ) (List ℕ) → Bool
 may_lengthen (Store Append compare key flags exptime block) = nat_lt 0 (length block)
 may_lengthen (Store Prepend compare key flags exptime block) = nat_lt 0 (length block)
@@ -41,15 +41,15 @@ stores (atoms.Meta (metas.Update update show)) = may_store update
 stores (atoms.Meta (metas.Get key get)) = true
 stores other = false
 
--- A command wants memory at a moment: just there it may be refused it. So it may store an item, under a key that is not held then, or make
--- the held value longer.
+-- A command needs memory at a moment: memory may be refused to it exactly then. It may store an item, under a key that is missing then, or
+-- make the stored value longer.
 pub record WantsMemory (s : CacheState) (atom : Atom (List ℕ)) (moment : ℕ) : Type 0 where
   pub exact : may_refuse s atom moment ≡ true
   pub stores : stores atom ≡ true
   pub grows : (held_under (atom_key atom) (settled s (atom_key atom) moment) ≡ None) ⊎ (lengthens atom ≡ true)
 
--- Memory is refused to no other: each entry of a history is of a command that its client sent to this server, which wants memory where it
--- was refused, of the cache that the entry before has left.
+-- Memory is refused to no other command: each entry of a history is of a command that its client sent to this server. If memory was
+-- refused to it, it needed memory of the cache that the entry before has left.
 abbrev pub AreWanted : RingState → (ℕ → List ℕ) → Log → ℕ → CacheState → List Entry → Type 0
 AreWanted opening texts log place s [] = Unit {0}
 AreWanted opening texts log place s (e ∷ es) =

@@ -1,4 +1,4 @@
--- An account without one of its clauses: on it is shown what each clause is for. All of it is this project's own.
+-- An account without one of its clauses, to show why it has each of them. All of it is this project's own.
 use Rattle.std.specs.Prelude.{ℕ, ◌≡◌, ◌≢◌, ◌<◌, true, List, ◌++◌, map, take, Some, slice_get, All}
 use Rattle.std.specs.List.{list_all}
 use Rattle.mc_request.specs.declared.parts.Atom.{Atom}
@@ -20,7 +20,7 @@ use Rattle.mc_history.specs.Named.{tags_of}
 use Rattle.mc_world.specs.Accounts.{IsToldLost, NotAnswered, WasTaken, answers_by}
 use Rattle.mc_world.specs.Logs.{IsRingAfter, Log, before, in_life, loses, moments_of, number_of, puts, serves, takes, turns_of}
 
--- the clauses of an account, by their names there; the second part of `placed` is by itself
+-- the clauses of an account, by their names there; the second part of `placed` has a name of its own
 pub data Clause : Type 0 where
   Asked : Clause
   Turns : Clause
@@ -40,7 +40,7 @@ pub data Clause : Type 0 where
   Placed : Clause
   Unanswered : Clause
 
--- the clauses of an account, but for one, as they are there
+-- the clauses of an account, except one, as they are there
 pub record AccountsBut (one : Clause) (losses : Losses) (ring : RingState) (opening : CacheState) (order : Order) (texts outs : ℕ → List ℕ) (histories : ℕ → List Entry) (log : Log) : Type 0 where
   pub asked : one ≢ Asked → (client : ℕ) → (untaken : List Taken) × (taken_of client order ++ untaken ≡ requests_of (texts client))
   pub turns : one ≢ Turns → map (λ (e : AskedFor). e.session) order ≡ turns_of log
@@ -67,7 +67,8 @@ pub record AccountsBut (one : Clause) (losses : Losses) (ring : RingState) (open
   pub unanswered : one ≢ Unanswered → (place k : ℕ) (e : Entry) → slice_get (histories place) k ≡ Some e → (reply : AReply (List ℕ))
       → outcome_at order (tag_in e) ≡ Some (outcomes.Reply reply) → NotAnswered (tag_in e) (before (serves place) k log)
 
--- for each choice for lost commands, there is a run of which by some order all clauses but one hold, and this holds too
+-- for each choice for lost commands, a run exists of which by some order all clauses except one hold, and this holds
+-- too
 abbrev pub Allows : Clause → (RingState → CacheState → (ℕ → List ℕ) → (ℕ → List ℕ) → (ℕ → List Entry) → Log → Type 0) → Type 0
 Allows one P =
     (losses : Losses) → (ring : RingState) × (opening : CacheState) × (texts : ℕ → List ℕ) × (outs : ℕ → List ℕ) × (histories : ℕ → List Entry) × (log : Log)

@@ -1,4 +1,4 @@
-//! Laws of what is put out to clients. The functions do nothing: their contracts are the laws.
+//! Laws of the bytes that are emitted to clients. The functions do nothing: their contracts are the laws.
 ghost use Rattle.std.specs.Prelude.{ℕ, ◌≡◌, ◌<◌, ◌≤◌, List, [], length};
 ghost use Rattle.std.specs.List.{concat};
 ghost use Rattle.mc_ring.specs.Rings.{RingState};
@@ -9,7 +9,7 @@ ghost use Rattle.mc_world.specs.Accounts.{Account};
 ghost use Rattle.mc_world.specs.Logs.{Log, before, number_of, puts, takes};
 ghost use Rattle.mc_pool_laws.specs.Told.{AreAnswersFrom};
 
-/// An answer is put out only to a request that was taken before.
+/// An answer is emitted only to a request that was taken before.
 pub fn answers_follow_requests()
     ensures few { (losses : Losses) (ring : RingState) (opening : CacheState) (texts outs : ℕ → List ℕ) (histories : ℕ → List Entry) (log : Log)
         → Account losses ring opening texts outs histories log → (client : ℕ) → number_of (puts client) log ≤ number_of (takes client) log }
@@ -18,9 +18,9 @@ pub fn answers_follow_requests()
         → request < number_of (takes client) (before (puts client) request log) }
 {}
 
-/// What is put out to a client is one answer for each put of the log, to its first requests, in their order. Each is the answer by replies
-/// to its commands whose spellings the servers' histories have. If one was lost, which the log then shows, the answer is by the choice for lost
-/// commands.
+/// The bytes emitted to a client are one answer for each put of the log, to its first requests, in their order. Each answer is made of replies
+/// to its commands whose encodings the servers' histories have. If a command was lost, which the log then shows, the answer follows the choice
+/// for lost commands.
 pub fn answers_are_those_of_the_histories()
     ensures { (losses : Losses) (ring : RingState) (opening : CacheState) (texts outs : ℕ → List ℕ) (histories : ℕ → List Entry) (log : Log)
         → Account losses ring opening texts outs histories log → (client : ℕ)
@@ -28,7 +28,7 @@ pub fn answers_are_those_of_the_histories()
         × AreAnswersFrom losses ring texts histories log client 0 answers }
 {}
 
-/// Nothing is put out to a client where the log has no put for it, nor where it sent nothing.
+/// No bytes are emitted to a client if the log has no put for it, or if it sent nothing.
 pub fn nothing_is_put_out_unasked()
     ensures without_put { (losses : Losses) (ring : RingState) (opening : CacheState) (texts outs : ℕ → List ℕ) (histories : ℕ → List Entry) (log : Log)
         → Account losses ring opening texts outs histories log → (client : ℕ) → number_of (puts client) log ≡ 0 → outs client ≡ [] }

@@ -1,6 +1,6 @@
-//! Laws of what an answer says by the choice for lost commands. The functions do nothing: their contracts are the laws.
+//! Laws of what an answer shows by the choice for lost commands. The functions do nothing: their contracts are the laws.
 //!
-//! Each answer that is put out is an `IsAnswerTo` ([`answers_are_those_of_the_histories`](crate::answers_are_those_of_the_histories)).
+//! Each emitted answer is an `IsAnswerTo` ([`answers_are_those_of_the_histories`](crate::answers_are_those_of_the_histories)).
 ghost use Rattle.std.specs.Prelude.{ℕ, ℤ, ◌≡◌, ◌≢◌, ◌==◌, ◌⊎◌, Bool, false, List, [], ◌∷◌, ◌++◌, codes, Option, if◌then◌else◌};
 ghost use Rattle.mc_request.specs.declared.meta.MetaCommand.TheVariants as metas;
 ghost use Rattle.mc_request.specs.declared.meta.MetaForm.{MetaForm};
@@ -25,8 +25,8 @@ ghost use Rattle.mc_world.specs.Logs.{Log};
 ghost use Rattle.mc_pool_laws.specs.Choices.{HaveReplies, ShowReplies};
 ghost use Rattle.mc_pool_laws.specs.Told.{IsAnswerTo};
 
-/// A value that is shown was a server's reply, as that server's history has it. So it is of each item of a `get`, whatever was lost:
-/// with `Told` it shows none if a command was lost. An `mg` shows its server's reply, or that there is no item, if it was lost.
+/// A value that is shown was a server's reply, as that server's history has it. This holds of each item of a `get`, whatever was lost; with
+/// `Told` it shows no item if a command was lost. With `Missed` an `mg` shows its server's reply, or, if it was lost, that there is no item.
 pub fn shown_values_are_replies()
     ensures missed { (ring : RingState) (texts : ℕ → List ℕ) (histories : ℕ → List Entry) (log : Log) (client request : ℕ) (answer : List ℕ)
         → (h : IsAnswerTo Missed ring texts histories log client request answer)
@@ -45,8 +45,8 @@ pub fn shown_values_are_replies()
         × IsToldLost (owner_in h.ring key) (tag_of client request 0) (histories (owner_in h.ring key)) log) }
 {}
 
-/// Nothing is reported as done that has no entry: the answer to a request that is no retrieval is by the replies of its servers, one to each of
-/// its commands, as their histories have them; or it is the line of a lost link. With `Missed` it may also be empty.
+/// Nothing is reported as done that has no entry. The answer to a request that is no retrieval is made of the replies of its servers, as their
+/// histories have them, one to each of its commands; or it is the line of a lost link. With `Missed` it may also be empty.
 pub fn done_is_executed()
     ensures told { (ring : RingState) (texts : ℕ → List ℕ) (histories : ℕ → List Entry) (log : Log) (client request : ℕ) (answer : List ℕ)
         → (h : IsAnswerTo Told ring texts histories log client request answer) → (what : Request) → h.what ≡ Whole what → answer ≢ lost_line
@@ -57,8 +57,9 @@ pub fn done_is_executed()
         → (replies : List (Reply (List ℕ))) × (answer ≡ answer_of what replies) × HaveReplies histories client request 0 (route_of_taken h.ring h.what) replies }
 {}
 
-/// A miss says nothing of its server. In this account, with `Missed`, a client stores an item, gets it, is answered that there is none, gets it
-/// again, and is answered its value. It sent nothing else, and no other client sent anything: the command of the first get was lost.
+/// A miss implies nothing about its server. In this account, with `Missed`, a client stores an item and gets it, and the answer is a miss. It
+/// gets the item again, and the answer is its value. The client sent nothing else, and no other client sent anything: the command of the first
+/// get was lost.
 pub fn a_miss_says_nothing_of_its_server()
     ensures { (ring : RingState) × (outs : ℕ → List ℕ) × (histories : ℕ → List Entry) × (log : Log)
         × Account Missed ring (opening_cache 1000 10 0) (λ client. if 0 == client then codes "set k 0 0 1\r\nv\r\nget k\r\nget k\r\n" else []) outs histories log

@@ -14,14 +14,14 @@ ghost use Rattle.mc_world.specs.Worlds.{CourseState, history_of, put_out_of, tak
 ghost use Rattle.mc_pool_laws.specs.Drained.{is_of_drain_at};
 ghost use Rattle.mc_pool_laws.specs.Told.{AreAnswersFrom};
 
-/// A drain at a moment adds to the log: no client sends or goes, no link is lost or comes back, no server joins, and each server takes its
-/// requests at that moment.
+/// In the entries that a drain at a moment adds to the log, no client sends or goes, no link is lost or comes up, and no server
+/// joins. Each server takes its requests at that moment.
 pub fn drains_add_what_is_left()
     ensures { (moment : ℕ) (old new : CourseState) → Drains moment old new
         → (added : Log) × (new.log ≡ old.log ++ added) × (list_all (is_of_drain_at moment) added ≡ true) }
 {}
 
-/// Where nothing is left to do, each client that has not gone took the answers to all its requests.
+/// If nothing is left to do, each client that has not gone took the answers to all its requests.
 pub fn quiet_worlds_have_answered()
     ensures { (losses : Losses) (ring : RingState) (opening : CacheState) (c : CourseState)
         → Account losses ring opening (text_of c) (put_out_of c) (history_of c) c.log → IsQuiet c → (client : ℕ) → IsThere client c.pool

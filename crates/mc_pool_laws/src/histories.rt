@@ -21,17 +21,18 @@ pub fn histories_have_their_turns()
         → Account losses ring opening texts outs histories log → (place : ℕ) → map (λ (e : Entry). e.moment) (histories place) ≡ moments_of place log }
 {}
 
-/// A cache that begins as the server's did replays what it took in each of its lives; a restart begins one. Each entry is of a command of
-/// its client's text, which goes to this server by the ring of the moment at which its request was taken. Its reply is the one that the
-/// cache gives there.
+/// A cache that begins as the server's did replays the entries of each of its lives; a restart begins a life. Each entry is of a command of
+/// its client's text, which goes to this server by the ring of the moment at which its request was taken. Its reply is the one that the cache
+/// gives at this point.
 pub fn histories_are_replayed()
     ensures { (losses : Losses) (ring : RingState) (opening : CacheState) (texts outs : ℕ → List ℕ) (histories : ℕ → List Entry) (log : Log)
         → Account losses ring opening texts outs histories log → (place life : ℕ)
         → IsReplayed ring texts log place opening (in_life place life log (histories place)) }
 {}
 
-/// Why life by life: a server that restarts keeps nothing. In this account a client stores an item, and is answered so. Its server restarts,
-/// and its link comes back. The client gets the item, and is answered that there is none. One cache does not replay both commands.
+/// This shows why caches replay histories life by life: a server that restarts keeps nothing. In this account a client stores an item, and the
+/// answer says so. Its server restarts, and its link comes up again. The client gets the item, and the answer is a miss. One cache does not
+/// replay both commands.
 pub fn restarted_servers_keep_nothing()
     ensures { (losses : Losses) → (ring : RingState) × (outs : ℕ → List ℕ) × (histories : ℕ → List Entry) × (log : Log)
         × Account losses ring (opening_cache 1000 10 0) (λ client. if 0 == client then codes "set k 0 0 1\r\nv\r\nget k\r\n" else []) outs histories log
@@ -39,22 +40,22 @@ pub fn restarted_servers_keep_nothing()
         × (IsReplayed ring (λ client. if 0 == client then codes "set k 0 0 1\r\nv\r\nget k\r\n" else []) log 0 (opening_cache 1000 10 0) (histories 0) → ⊥) }
 {}
 
-/// In each life of a server each key is a register that may forget: what the server took in that life tells commands and replies, and those
-/// on the key are a run of it (`mc_registers`). A life's first number is above 0.
+/// In each life of a server each key is a register that may forget. The history of that life records commands and replies, and those on the
+/// key are a run of the register (`mc_registers`). A life's first number is above 0.
 pub fn lives_are_registers()
     ensures { (losses : Losses) (ring : RingState) (budget items : ℕ) (order : Order) (texts outs : ℕ → List ℕ) (histories : ℕ → List Entry) (log : Log)
         → IsWithinBounds budget items → Accounts losses ring (opening_cache budget items 0) order texts outs histories log → (place life : ℕ)
         → (all : List Done) × TellEach order place (in_life place life log (histories place)) all × ((key : List ℕ) → IsRun 0 None (on_key key all)) }
 {}
 
-/// Memory is refused to no command but one that wants it: it stores an item under a key that is not held then, or makes the held value longer.
+/// Memory is refused only to a command that needs it: it stores an item under a key that is missing then, or makes the stored value longer.
 pub fn only_stores_are_refused()
     ensures { (losses : Losses) (ring : RingState) (opening : CacheState) (texts outs : ℕ → List ℕ) (histories : ℕ → List Entry) (log : Log)
         → Account losses ring opening texts outs histories log → (place life : ℕ)
         → AreWanted ring texts log place opening (in_life place life log (histories place)) }
 {}
 
-/// No command is executed twice, be it in two servers or at two turns of one.
+/// No command is executed twice, in two servers or at two turns of one.
 pub fn commands_are_executed_once()
     ensures { (losses : Losses) (ring : RingState) (opening : CacheState) (texts outs : ℕ → List ℕ) (histories : ℕ → List Entry) (log : Log)
         → Account losses ring opening texts outs histories log → (r s j k : ℕ) (d e : Entry) → slice_get (histories r) j ≡ Some d

@@ -1,15 +1,15 @@
-//! What an account of a pool promises to somebody who sees only texts, what was put out, histories and the log.
+//! What an account of a pool promises to an observer who sees only texts, emitted bytes, histories and the log.
 //!
-//! No program uses this crate. Its functions do nothing: their contracts are the laws. Each is proved from `Account` of `mc_world` alone,
-//! whatever order it has, but those of a drain and of one map. Each clause of the record `Accounts` has a law here that needs it: `docs/LAWS.md` has
-//! the table. `specs/Sent.antt` says what a client's text tells of a command, `specs/Followed.antt` what the proxy sent to a server, and
-//! `specs/Told.antt` what the histories and the log tell of a command. `specs/Choices.antt` says what an answer shows by the choice for
-//! lost commands, `specs/Wanted.antt` which commands memory may be refused to, `specs/Drained.antt` what a drain adds to a log.
+//! No program uses this crate. Its functions do nothing: their contracts are the laws. Each is proved from `Account` of `mc_world` alone, whatever
+//! order it has, except those of a drain and of one map. Each clause of the record `Accounts` has a law here that needs it: `docs/LAWS.md` has the
+//! table. To read on: `specs/Sent.antt` defines what a client's text shows of a command, `specs/Followed.antt` what the proxy sent to a server, and
+//! `specs/Told.antt` what the histories and the log show of a command. `specs/Choices.antt` defines what an answer shows by the choice for lost
+//! commands, `specs/Wanted.antt` which commands memory may be refused to, and `specs/Drained.antt` what a drain adds to a log.
 //!
 //! # One map
 //!
-//! A pool is one map: the commands of all servers, in the order of their turns, are answered as by one map. `specs/Executions.antt` says in
-//! which order all servers executed their commands, and `specs/OneMaps.antt` what a plain run is, and what one map says of it.
+//! A pool is one map: the commands of all servers, in the order of their turns, are answered as by one map. `specs/Executions.antt` defines the
+//! order in which all servers executed their commands, and `specs/OneMaps.antt` what a plain run is, and what one map says of it.
 #![tactic(auto)]
 
 mod answers;

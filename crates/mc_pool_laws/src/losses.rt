@@ -17,15 +17,15 @@ ghost use Rattle.mc_pool_laws.specs.Followed.{FollowsProxy};
 ghost use Rattle.mc_pool_laws.specs.Sent.{IsSent};
 ghost use Rattle.mc_pool_laws.specs.Told.{HasEntry, HasOneEntry, LinkHeld, WasAnswered};
 
-/// Each command of an answered request was executed by its server, or was lost. Then its link was down when its request was taken, and it was
-/// never executed; or its link was lost between then and the answer.
+/// Each command of an answered request was executed by its server, or was lost. If it was lost, either its link was down when its request was
+/// taken, and it was never executed; or its link was lost between then and the answer.
 pub fn answered_commands_are_executed_or_lost()
     ensures { (losses : Losses) (ring : RingState) (opening : CacheState) (texts outs : ℕ → List ℕ) (histories : ℕ → List Entry) (log : Log)
         → Account losses ring opening texts outs histories log → (tag : Tag) (command : Routed) → IsSent ring texts log tag command → WasAnswered tag log
         → HasEntry (histories command.server) tag ⊎ IsToldLost command.server tag (histories command.server) log }
 {}
 
-/// A server's link is never lost. Then each command of an answered request that goes to that server was executed there, exactly once, and
+/// If a server's link is never lost, each command of an answered request that goes to that server was executed there, exactly once, and
 /// nowhere else.
 pub fn without_losses_each_command_is_executed_once()
     ensures { (losses : Losses) (ring : RingState) (opening : CacheState) (texts outs : ℕ → List ℕ) (histories : ℕ → List Entry) (log : Log)
@@ -33,14 +33,15 @@ pub fn without_losses_each_command_is_executed_once()
         → number_of (loses command.server) log ≡ 0 → HasOneEntry histories command.server tag }
 {}
 
-/// The same where the link may be lost later: a command of an answered request, whose server's link was not lost before the answer.
+/// If the link of a command's server was not lost before the answer to its request, that server executed the command, exactly once, and no
+/// other did. The link may be lost later.
 pub fn commands_whose_links_held_are_executed_once()
     ensures { (losses : Losses) (ring : RingState) (opening : CacheState) (texts outs : ℕ → List ℕ) (histories : ℕ → List Entry) (log : Log)
         → Account losses ring opening texts outs histories log → (tag : Tag) (command : Routed) → IsSent ring texts log tag command → WasAnswered tag log
         → number_of (loses command.server) (before (puts tag.session) tag.request log) ≡ 0 → HasOneEntry histories command.server tag }
 {}
 
-/// A server's link is never lost. Then no command to it is lost, and each of an answered request has its reply. The server's history is of the
+/// If a server's link is never lost, no command to it is lost, and each of an answered request has its reply. The server's history is of the
 /// first of the commands that were sent to it, in the order in which the proxy took the requests.
 pub fn without_losses_histories_follow_the_proxy()
     ensures never_lost { (losses : Losses) (ring : RingState) (opening : CacheState) (order : Order) (texts outs : ℕ → List ℕ) (histories : ℕ → List Entry) (log : Log)

@@ -1,5 +1,5 @@
-//! What each clause of an account is for. The functions do nothing: their contracts are the laws. Each says that there are texts, histories
-//! and a log of which all clauses but one hold, and which break a law of this crate.
+//! Why an account has each of its clauses. The functions do nothing: their contracts are the laws. Each says that texts, histories and a log
+//! exist of which all clauses except one hold, and which break a law of this crate.
 ghost use Rattle.std.specs.Prelude.{ℕ, ◌≡◌, ◌≢◌, ◌<◌, ◌↔◌, List, [], Some, length, slice_get};
 ghost use Rattle.mc_request.specs.Requests.{requests_of};
 ghost use Rattle.mc_ring.specs.Rings.{RingState};
@@ -32,7 +32,7 @@ pub fn requests_need_their_clauses()
     ensures followed { Allows Followed (λ ring opening texts outs histories log. (number_of (loses 0) log ≡ 0) × (FollowsProxy ring texts log 0 (histories 0) → ⊥)) }
 {}
 
-/// Without `after` or `put` there could be answers where nothing was taken, or bytes that are no answer. Without `sized`, `answered`,
+/// Without `after` or `put` an answer could exist although nothing was taken, or bytes that are no answer. Without `sized`, `answered`,
 /// `replied`, `lost` or `rings` a request could be answered whose command no server has executed, and which no loss explains.
 pub fn answers_need_their_clauses()
     ensures after { Allows After (λ ring opening texts outs histories log. number_of (takes 0) log < number_of (puts 0) log) }
@@ -44,8 +44,8 @@ pub fn answers_need_their_clauses()
     ensures rings { Allows Rings (λ ring opening texts outs histories log. IsUnaccounted ring texts histories log) }
 {}
 
-/// Without `legal` a server could answer what no cache does, without `once` it could execute a command twice, and without `moments` have a turn
-/// without an entry. Without `placed` it could execute a command before it was taken, or after it was answered by its reply.
+/// Without `legal` a server could answer what no cache does. Without `once` it could execute a command twice, and without `moments` it could
+/// have a turn without an entry. Without `placed` it could execute a command before it was taken, or after it was answered by its reply.
 pub fn histories_need_their_clauses()
     ensures legal { Allows Legal (λ ring opening texts outs histories log. IsReplayed ring texts log 0 opening (in_life 0 0 log (histories 0)) → ⊥) }
     ensures once { Allows Once (λ ring opening texts outs histories log. (d : Entry) × (e : Entry) × (slice_get (histories 0) 0 ≡ Some d)

@@ -12,8 +12,8 @@ ghost use Rattle.mc_pool_laws.specs.Executions.{sent_at};
 ghost use Rattle.mc_pool_laws.specs.OneMaps.{ArePlainlyOfOneMap};
 
 /// No server joined or restarted, no store was refused, nothing was evicted, and no command was a flush, compared an item's number, or showed it. Then
-/// all histories of an account are those of one map, which takes the commands of all servers in the order of their turns. The commands of
-/// the entries may be looked up in what the clients sent, or in any order of the account.
+/// all histories of an account are those of one map, which takes the commands of all servers in the order of their turns. The commands of the entries
+/// may be looked up in what the clients sent, or in any order of the account.
 pub fn accounts_are_of_one_map()
     ensures by_texts { (losses : Losses) (ring : RingState) (budget items : ℕ) (texts outs : ℕ → List ℕ) (histories : ℕ → List Entry) (log : Log)
         → IsWithinBounds budget items → Account losses ring (opening_cache budget items 0) texts outs histories log

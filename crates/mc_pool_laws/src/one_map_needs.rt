@@ -1,4 +1,4 @@
-//! What a premise of the laws is for. The function does nothing: its contract is the law.
+//! Why the laws of one map have a premise. The function does nothing: its contract is the law.
 ghost use Rattle.std.specs.Prelude.{ℕ, ◌≡◌, List, codes};
 ghost use Rattle.mc_ring.specs.Rings.{RingState};
 ghost use Rattle.mc_route.specs.Routes.{owner_in};
@@ -13,9 +13,9 @@ ghost use Rattle.mc_world.specs.Logs.{Log, number_of, restarts};
 ghost use Rattle.mc_pool_laws.specs.Executions.{commands_of};
 ghost use Rattle.mc_pool_laws.specs.OneMaps.{AreOfOneMap, joins};
 
-/// Why no server may restart. In this account a client stores an item, and is answered so. Its server restarts, and its link comes back. The
-/// client gets the item, and is answered that there is none. No server joined, and each command is a plain step of a cache that goes on.
-/// The histories are not those of one map.
+/// This shows why no server may restart. In this account a client stores an item, and the answer says so. Its server restarts, and its link
+/// comes up again. The client gets the item, and the answer is a miss. No server joined, and each command is a plain step of a cache that
+/// goes on. The histories are not those of one map.
 pub fn restarted_servers_are_not_one_map()
     ensures { (losses : Losses) → (ring : RingState) × (order : Order) × (texts : ℕ → List ℕ) × (outs : ℕ → List ℕ) × (histories : ℕ → List Entry) × (log : Log)
         × Accounts losses ring (opening_cache 1000 10 0) order texts outs histories log

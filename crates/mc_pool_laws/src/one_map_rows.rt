@@ -17,7 +17,8 @@ pub fn commands_are_merged_by_turns()
         ≡ (executed_at 0 5 (flush_of (pos 0)) ∷ executed_at 1 6 (flush_of (pos 0)) ∷ executed_at 0 9 (set_of (codes "k") (codes "v")) ∷ []) }
 {}
 
-/// A run of a set and a get is plain: the map answers stored, and a hit, and so the history of the server has them, spelled one by one.
+/// A run of a set and a get is plain: the map answers that the item is stored, and then a hit. The history of the server has both
+/// replies, encoded one by one.
 pub fn a_set_and_a_get_are_plain()
     ensures plain { IsPlainRun (opening_cache 1000 2 0) (command_at set_and_get) one_history two_turns }
     ensures answered { map_replies empty_map (executed (command_at set_and_get) one_history two_turns) ≡ (Stored ∷ Hit 0 None (codes "v") ∷ []) }

@@ -1,4 +1,4 @@
-//! The law of worlds.
+//! The law of one map for worlds.
 ghost use Rattle.std.specs.Prelude.{◌≡◌, [], All, IfOk};
 ghost use Rattle.mc_cache.specs.CacheState.{HasRoom};
 ghost use Rattle.mc_pool_laws.specs.OneMaps.{ActsAsOneMap};
@@ -10,8 +10,8 @@ use mc_text::Block;
 use mc_world::{Event, Losses, World, WorldError};
 use std::alloc::Global;
 
-/// A law on public calls alone: for any ring, choice for lost commands, clients, bounds, stores of any kind and list of events, the world
-/// that took them gives account. Where its run is plain, the histories of all its servers are those of one map, which takes all their
+/// A law on public calls alone. For any ring, choice for lost commands, clients, bounds, stores of any kind and list of events, the world
+/// that executed them gives account. If its run is plain, the histories of all its servers are those of one map, which takes all their
 /// commands in the order of their turns.
 pub fn worlds_act_as_one_map<S: Store + Drop>(
     alloc: Global,

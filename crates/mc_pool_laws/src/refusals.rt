@@ -13,13 +13,13 @@ ghost use Rattle.mc_world.specs.Accounts.{Account};
 ghost use Rattle.mc_world.specs.Logs.{Log, number_of, puts, serves};
 ghost use Rattle.mc_pool_laws.specs.Sent.{IsSent};
 
-/// A history with an entry, where the log has no turn of its server, gives no account.
+/// A history with an entry gives no account if the log has no turn of its server.
 pub fn no_entry_without_a_turn()
     ensures { (losses : Losses) (ring : RingState) (opening : CacheState) (texts outs : ℕ → List ℕ) (histories : ℕ → List Entry) (log : Log) (place k : ℕ) (e : Entry)
         → slice_get (histories place) k ≡ Some e → number_of (serves place) log ≡ 0 → Account losses ring opening texts outs histories log → ⊥ }
 {}
 
-/// An answer put out to a client that sent nothing gives no account.
+/// An answer that is emitted to a client that sent nothing gives no account.
 pub fn no_answer_without_a_request()
     ensures { (losses : Losses) (ring : RingState) (opening : CacheState) (texts outs : ℕ → List ℕ) (histories : ℕ → List Entry) (log : Log) (client : ℕ)
         → texts client ≡ [] → number_of (puts client) log ≢ 0 → Account losses ring opening texts outs histories log → ⊥ }
@@ -32,7 +32,8 @@ pub fn no_command_in_two_histories()
         → Account losses ring opening texts outs histories log → ⊥ }
 {}
 
-/// A first entry with another reply than the opening cache gives to its command gives no account.
+/// A first entry gives no account if its reply is not the one that the opening cache gives to its
+/// command.
 pub fn no_reply_of_another_cache()
     ensures { (losses : Losses) (ring : RingState) (opening : CacheState) (texts outs : ℕ → List ℕ) (histories : ℕ → List Entry) (log : Log) (place : ℕ)
         (atom : Atom (List ℕ)) (e : Entry) (es : List Entry) → histories place ≡ e ∷ es → IsSent ring texts log (tag_in e) (to_place place atom)

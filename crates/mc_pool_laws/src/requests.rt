@@ -12,8 +12,7 @@ ghost use Rattle.mc_world.specs.Logs.{IsRingAfter, Log, number_of, takes};
 ghost use Rattle.mc_pool_laws.specs.Followed.{AreSentBy};
 ghost use Rattle.mc_pool_laws.specs.Sent.{IsTaken};
 
-/// A request is taken only where its client sent it whole. It is the one of its number in the client's text, and there is a ring of that
-/// moment.
+/// A request is taken only if its client sent it whole. It is the one of its number in the client's text, and a ring of that moment exists.
 pub fn requests_are_taken_as_sent()
     ensures few { (losses : Losses) (ring : RingState) (opening : CacheState) (texts outs : ℕ → List ℕ) (histories : ℕ → List Entry) (log : Log)
         → Account losses ring opening texts outs histories log → (client : ℕ) → number_of (takes client) log ≤ length (requests_of (texts client)) }
@@ -22,13 +21,14 @@ pub fn requests_are_taken_as_sent()
         → (what : Taken) × (now : RingState) × IsTaken ring texts log client request what now }
 {}
 
-/// What was sent to a server is one list, which the clients' texts and the log tell. So it is known what a history that follows the proxy is.
+/// The commands sent to a server are one list, which the clients' texts and the log determine. So a history that follows the proxy is
+/// determined too.
 pub fn sent_commands_are_one()
     ensures { (ring : RingState) (texts : ℕ → List ℕ) (log : Log) (place : ℕ) (a b : List Tagged)
         → AreSentBy ring texts place [] log a → AreSentBy ring texts place [] log b → a ≡ b }
 {}
 
-/// A log leaves one ring. So it is known where each command goes.
+/// A log leaves one ring. So the server of each command is determined.
 pub fn rings_are_one()
     ensures { (ring a b : RingState) (log : Log) → IsRingAfter ring log a → IsRingAfter ring log b → a ≡ b }
 {}

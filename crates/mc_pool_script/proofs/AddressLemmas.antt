@@ -27,26 +27,26 @@ first_is_address place inside =
     let is : get_or (range_with_len 0 64) place 0 ≡ place = get_or-range_with_len 0 64 place 0 inside ∙ omega arith in
     subst (λ (n : ℕ). is_address (first_server n) ≡ true) is at
 
--- so the text of such a server is read
+-- the text of such a server is read
 pub first_is_read : (place : ℕ) (text : List ℕ) → place < 64 → text ≡ first_server place → address_read text ≡ Some (first_server place)
 first_is_read place text inside is =
     let good : is_address (first_server place) ≡ true = first_is_address place inside in
     ap address_read is ∙ ap (λ (b : Bool). cond b (Some (first_server place)) None) good
 
--- it is no other
+-- its text is no other address
 pub first_is_it : (place : ℕ) (text address : List ℕ) (read : Option (List ℕ)) → place < 64 → text ≡ first_server place → read ≡ address_read text → read ≡ Some address
     → address ≡ first_server place
 first_is_it place text address read inside is e some =
     let both : Some address ≡ Some (first_server place) = sym some ∙ e ∙ first_is_read place text inside is in
     cc
 
--- and not nothing
+-- its text is an address
 pub first_is_there : (place : ℕ) (text : List ℕ) (read : Option (List ℕ)) → place < 64 → text ≡ first_server place → read ≡ address_read text → read ≡ None → ⊥
 first_is_there place text read inside is e none =
     let both : None ≡ Some (first_server place) = sym none ∙ e ∙ first_is_read place text inside is in
     cc
 
--- one first server more
+-- one more first server
 pub first_servers_more : (count : ℕ) → first_servers (count + 1) ≡ first_servers count ++ first_server count ∷ []
 first_servers_more count = map-range_with_len_more first_server 0 count count (omega arith)
 
@@ -62,19 +62,19 @@ both_false : (a b : Bool) → a ≡ false → b ≡ false → (a || b) ≡ false
 both_false true b first second = first
 both_false false b first second = second
 
--- no two of the first 64 are alike
+-- no two of the first 64 are equal
 all_apart : has_doubled (first_servers 64) ≡ false
 unfolding digits first_server
 all_apart = refl
 
--- what none of some texts is, none of the first of them is
+-- a property that no element of a list has, no element of its front has
 none_of_first : (p : List ℕ → Bool) (xs : List (List ℕ)) (n : ℕ) → list_any p xs ≡ false → list_any p (take n xs) ≡ false
 none_of_first p [] zero none = refl
 none_of_first p [] (suc n) none = refl
 none_of_first p (x ∷ xs) zero none = refl
 none_of_first p (x ∷ xs) (suc n) none = both_false (p x) (list_any p (take n xs)) (first_false (p x) (list_any p xs) none) (none_of_first p xs n (second_false (p x) (list_any p xs) none))
 
--- and no two of them are alike
+-- no two elements of the front of a list without doubles are equal
 apart_first : (xs : List (List ℕ)) (n : ℕ) → has_doubled xs ≡ false → has_doubled (take n xs) ≡ false
 apart_first [] zero apart = refl
 apart_first [] (suc n) apart = refl
@@ -84,7 +84,7 @@ apart_first (x ∷ xs) (suc n) apart =
     both_false (list_any test (take n xs)) (has_doubled (take n xs)) (none_of_first test xs n (first_false (list_any test xs) (has_doubled xs) apart))
     (apart_first xs n (second_false (list_any test xs) (has_doubled xs) apart))
 
--- so a ring of them is not refused
+-- a ring of them is not refused
 pub first_servers_serve : (count : ℕ) → 1 ≤ count → count ≤ 64 → refusal_of (first_servers count) ≡ None
 first_servers_serve count some few =
     let size : length (first_servers count) ≡ count = length-map-range_with_len first_server 0 count in
@@ -94,7 +94,7 @@ first_servers_serve count some few =
     let not_many : nat_lt 64 (length (first_servers count)) ≡ false = grind (arith, nat_tests, size, few) in
     rw (none, not_many, apart) refl
 
--- nor is a ring of them with points of theirs
+-- a ring of them with points of theirs is not refused
 pub script_serves : (seen : PoolSeen) → IsPoolScript seen → refusal_of_pool (first_servers seen.servers) seen.points ≡ None
 script_serves seen good =
     let servers = first_servers seen.servers in

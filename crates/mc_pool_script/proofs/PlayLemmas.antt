@@ -24,7 +24,7 @@ played_items h = h.keeps.items ∙ ap (λ (w : WorldState). w.items) h.opened.is
 pub played_budget : {script : PoolSeen} {count : ℕ} {steps : List Step} {world : WorldState} → PlayedTo script count steps world → world.budget ≡ script.budget
 played_budget h = h.keeps.budget ∙ ap (λ (w : WorldState). w.budget) h.opened.is
 
--- one line after others
+-- one more line after others
 plays_after : (opening : CacheState) (lines : List PoolLine) (steps : List Step) (line : PoolLine) (step : Step) (old now new : CourseState)
     → PlaysAll opening lines steps old now → Plays opening line step now new → PlaysAll opening (lines ++ line ∷ []) (steps ++ step ∷ []) old new
 plays_after opening [] [] line step old now new is plays = (new, subst (λ (c : CourseState). Plays opening line step c new) is plays, refl)
@@ -36,7 +36,7 @@ plays_after opening (l ∷ ls) (s ∷ ss) line step old now new h plays =
 keeps_both : (first old new : WorldState) → KeepsOpening first old → KeepsOpening old new → KeepsOpening first new
 keeps_both first old new a b = record { ring = b.ring ∙ a.ring; losses = b.losses ∙ a.losses; budget = b.budget ∙ a.budget; items = b.items ∙ a.items }
 
--- one more of them
+-- one more of the script's lines
 pub plays_one : (script : PoolSeen) (i : ℕ) (steps : List Step) (line : PoolLine) (step : Step) (old new : WorldState) → i < length script.lines
     → get_or script.lines i line ≡ line → PlayedTo script i steps old → Plays (opening_cache old.budget old.items 0) line step old.course new.course
     → KeepsOpening old new → GivesAccount new → PlayedTo script (i + 1) (steps ++ step ∷ []) new

@@ -4,7 +4,7 @@ use Rattle.std.specs.Option.{option_map}
 use Rattle.mc_script.specs.Escapes.{hex_value}
 use Rattle.mc_pool_script.specs.PoolScripts.{hex_from, hex_of, with_digit}
 
--- after what is no digit nothing is read
+-- after a byte that is no digit nothing is read
 hex_from-none : (digits : List ℕ) → hex_from None digits ≡ None
 hex_from-none [] = refl
 hex_from-none (d ∷ ds) = hex_from-none ds

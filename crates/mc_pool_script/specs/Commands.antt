@@ -4,7 +4,7 @@ use Rattle.std.specs.Str.{bytes_eq}
 use Rattle.mc_pool_script.specs.declared.commands.Command.{Command}
 use Rattle.mc_pool_script.specs.declared.commands.Command.TheVariants.{Bytes, Gone, Turn, Emit, Takes, ToServer, Serve, ToProxy, Reply, Lost, Back, End, Join, Restart, Drain}
 
--- what a name says of a client
+-- the command of a client that a name stands for
 unfoldable pub client_command : List ℕ → Option Command
 client_command name =
     if bytes_eq name (codes "bytes") then Some Bytes
@@ -14,7 +14,7 @@ client_command name =
     else if bytes_eq name (codes "takes") then Some Takes
     else None
 
--- what a name says of the bytes between proxy and servers
+-- the command that a name stands for: of the bytes between proxy and servers
 unfoldable pub way_command : List ℕ → Option Command
 way_command name =
     if bytes_eq name (codes "toserver") then Some ToServer
@@ -23,7 +23,7 @@ way_command name =
     else if bytes_eq name (codes "reply") then Some Reply
     else None
 
--- what a name says of a link, of a server that joins or restarts, or of all that is left to do
+-- the command that a name stands for: of a link, of a server that joins or restarts, or of a drain
 unfoldable pub link_command : List ℕ → Option Command
 link_command name =
     if bytes_eq name (codes "lost") then Some Lost

@@ -8,11 +8,11 @@ use Rattle.mc_script.specs.Lines.{lines_from, cut_at_space}
 unfoldable pub begins_pool : List ℕ → Bool
 begins_pool line = option_map_or (λ words. bytes_eq words.0 (codes "pool")) (cut_at_space line) false
 
--- that of the first of some lines is
+-- the first word of the first of some lines is `pool`
 unfoldable pub is_pool : List (ℕ × List ℕ) → Bool
 is_pool [] = false
 is_pool (line ∷ lines) = begins_pool line.1
 
--- that of the first line of a text that is not empty is
+-- the first word of the first line of a text that is not empty is `pool`
 abbrev pub is_of_pool : List ℕ → Bool
 is_of_pool input = is_pool (lines_from 1 input)

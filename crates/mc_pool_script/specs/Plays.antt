@@ -19,15 +19,15 @@ use Rattle.mc_world.specs.declared.errors.Step.TheVariants.{Done}
 abbrev pub cache_of : PoolSeen → CacheState
 cache_of script = opening_cache script.budget script.items 0
 
--- what a line does to the course of a world, and what the step of its event answers: a server joins or restarts in any case, and a drain is done
--- in rounds until nothing is left
+-- what a line does to the course of a world, and the answer of its event's step: a server that joins or restarts always does so, and a drain is
+-- done in rounds until nothing is left
 abbrev pub Plays : CacheState → PoolLine → Step → CourseState → CourseState → Type 0
 Plays opening (Event event) step old new = StepsTo event step old new
 Plays opening (Join address) step old new = (step ≡ Done) × HasServerJoined address opening old new
 Plays opening (Restart server) step old new = (step ≡ Done) × HasServerRestarted server opening old new
 Plays opening (Drain moment) step old new = (step ≡ Done) × Drains moment old new × DrainsInRounds moment old new × IsQuiet new
 
--- what lines do, one after another
+-- what lines do, in sequence
 abbrev pub PlaysAll : CacheState → List PoolLine → List Step → CourseState → CourseState → Type 0
 PlaysAll opening [] [] old new = new ≡ old
 PlaysAll opening (line ∷ lines) (step ∷ steps) old new = (next : CourseState) × Plays opening line step old next × PlaysAll opening lines steps next new
@@ -45,8 +45,8 @@ pub record KeepsOpening (old new : WorldState) : Type 0 where
   pub budget : new.budget ≡ old.budget
   pub items : new.items ≡ old.items
 
--- A world has played a script: it was opened as the script wants it, took its lines in order, each with this answer, and gives
--- account of all that came.
+-- A world has played a script: it was opened as the script says, executed its lines in order, each with this answer, and gives account of all of
+-- them.
 pub record HasPlayed (script : PoolSeen) (steps : List Step) (world : WorldState) : Type 0 where
   pub first : WorldState
   pub opened : IsOpenedFor script first
@@ -54,6 +54,6 @@ pub record HasPlayed (script : PoolSeen) (steps : List Step) (world : WorldState
   pub played : PlaysAll (cache_of script) script.lines steps first.course world.course
   pub account : GivesAccount world
 
--- what was put out to the first clients, in order
+-- the bytes that were emitted to the first clients, in order
 abbrev pub outs_of : ℕ → CourseState → List (List ℕ)
 outs_of count course = map (λ client. put_out_of course client) (range_with_len 0 count)

@@ -1,4 +1,4 @@
--- Lines of a pool script, what each says. Source: this project's own.
+-- Lines of a pool script, and the meaning of each. Source: this project's own.
 use Rattle.std.specs.Prelude.{ℕ, ◌^◌, ◌-◌, ◌<◌, List, length, Option, Some, None, is_some, codes, if◌then◌else◌}
 use Rattle.std.specs.Option.{option_map, option_or}
 use Rattle.std.specs.Str.{bytes_eq}
@@ -20,7 +20,7 @@ use Rattle.mc_world.specs.declared.events.Event.TheVariants.{ClientBytes, Client
 abbrev pub count_of : List ℕ → Option ℕ
 count_of word = if bytes_eq word (codes "all") then Some (2 ^ 64 - 1) else read_u64 word
 
--- `bytes <client> <text>`, by what follows the name; so it is of all that follow
+-- `bytes <client> <text>`, by the text after the name; so do all definitions that follow
 unfoldable pub bytes_line : ℕ → List ℕ → Option PoolLine
 bytes_line clients text = do
   words ← cut_at_space text
@@ -82,7 +82,7 @@ join_line servers text = do
   address ← address_read text
   if is_some (refusal_of_more servers address) then None else Some (Joins address)
 
--- the line of a command whose words are numbers alone, by what follows its name: `gone <client>`, `turn <client>`,
+-- the line of a command whose words are numbers alone, by the text after its name: `gone <client>`, `turn <client>`,
 -- `emit <client>`, `reply <server>`, `lost <server>`, `back <server>`, `restart <server>`, `drain <moment>`, and those above
 abbrev pub numbers_line : ℕ → ℕ → Command → List ℕ → Option PoolLine
 numbers_line clients servers Gone text = option_map (λ client. Event (ClientGone client)) (place_of clients text)
@@ -100,7 +100,7 @@ numbers_line clients servers Restart text = option_map (λ server. Restarts serv
 numbers_line clients servers Drain text = option_map (λ moment. Drains moment) (moment_read text)
 numbers_line clients servers command text = None
 
--- the line of a command, likewise
+-- the line of a command, by the text after its name
 abbrev pub line_by : ℕ → List (List ℕ) → Command → List ℕ → Option PoolLine
 line_by clients servers Bytes text = bytes_line clients text
 line_by clients servers Join text = join_line servers text
@@ -110,14 +110,14 @@ line_by clients servers command text = numbers_line clients (length servers) com
 abbrev pub command_of : List ℕ → Option Command
 command_of name = option_or (client_command name) (option_or (way_command name) (link_command name))
 
--- what a line says, where so many clients and these servers are there
+-- the meaning of a line, if there are this many clients and these servers
 unfoldable pub line_of : ℕ → List (List ℕ) → List ℕ → Option PoolLine
 line_of clients servers line = do
   words ← cut_at_space line
   command ← command_of words.0
   line_by clients servers command words.1
 
--- the moment of what a line says, where it has one
+-- the moment of a line, if it has one
 abbrev pub HasMoment : PoolLine → ℕ → Type 0
 HasMoment (Event (ServerTurn server generation moment)) most = moment < most
 HasMoment (Drains moment) most = moment < most

@@ -19,19 +19,19 @@ use Rattle.mc_pool_script.specs.PoolLines.{line_of, HasMoment}
 use Rattle.mc_pool_script.specs.declared.lines.PoolLine.{PoolLine}
 use Rattle.mc_pool_script.specs.declared.lines.PoolLine.TheVariants.{Event, Join, Restart, Drain}
 
--- what a script says
+-- the content of a script
 pub record PoolSeen : Type 0 where
-  -- how many servers are there at first, and how many clients
+  -- the number of servers at first, and the number of clients
   pub servers : ℕ
   pub clients : ℕ
   -- the limits of each server's cache
   pub budget : ℕ
   pub items : ℕ
-  -- the points of the ring, where they are given
+  -- the points of the ring, if they are given
   pub points : List Point
-  -- the choice for lost commands, if a line says it
+  -- the choice for lost commands, if a line names it
   pub losses : Option Losses
-  -- what comes, in order
+  -- the lines after these, in order
   pub lines : List PoolLine
 
 -- the address of a first server, by its place
@@ -49,7 +49,7 @@ joined_by (Join address) = address ∷ []
 joined_by (Restart server) = []
 joined_by (Drain moment) = []
 
--- all servers that are there once these lines were played
+-- all servers once these lines were played
 abbrev pub servers_of : PoolSeen → List (List ℕ)
 servers_of seen = first_servers seen.servers ++ flat_map joined_by seen.lines
 
@@ -66,7 +66,7 @@ limits_of line = do
   items ← limit_of (2 ^ 24) limits.1
   if bytes_eq command.0 (codes "pool") then Some (servers, clients, budget, items) else None
 
--- a script of these limits that says no more
+-- a script of these limits alone
 abbrev pub opening_script : ℕ × ℕ × ℕ × ℕ → PoolSeen
 opening_script limits = record { servers = limits.0; clients = limits.1; budget = limits.2; items = limits.3; points = []; losses = None; lines = [] }
 
@@ -74,7 +74,7 @@ opening_script limits = record { servers = limits.0; clients = limits.1; budget 
 abbrev pub head_of : List ℕ → Option PoolSeen
 head_of line = option_map opening_script (limits_of line)
 
--- a number with one hexadecimal digit more, if that is one
+-- a number with one more hexadecimal digit, if that is one
 abbrev pub with_digit : Option ℕ → ℕ → Option ℕ
 with_digit number digit = option_and_then (λ n. option_map (λ d. 16 * n + d) (hex_value digit)) number
 
@@ -87,7 +87,8 @@ hex_from number (digit ∷ digits) = hex_from (with_digit number digit) digits
 abbrev pub hex_of : List ℕ → Option ℕ
 hex_of word = if length word == 8 then hex_from (Some 0) word else None
 
--- what follows the word `point` and a space: `<8 hexadecimal digits> <server>`, one of the first servers
+-- the point of the text after the word `point` and a space: `<8 hexadecimal digits> <server>`, one of the first
+-- servers
 unfoldable pub point_of : ℕ → List ℕ → Option Point
 point_of servers text = do
   words ← cut_at_space text
@@ -102,11 +103,11 @@ losses_named word =
     else if bytes_eq word (codes "missed") then Some Missed
     else None
 
--- the choice of a script: `told` if no line says it
+-- the choice of a script: `told` if no line names it
 abbrev pub losses_of : PoolSeen → Losses
 losses_of seen = unwrap_or seen.losses Told
 
--- a script with one point more, with a choice for lost commands, or with one line more of what comes
+-- a script with one more point, with a choice for lost commands, or with one more line
 abbrev pub pointed : PoolSeen → Point → PoolSeen
 pointed seen point = record seen { points = seen.points ++ point ∷ [] }
 
@@ -116,7 +117,7 @@ chosen seen losses = record seen { losses = Some losses }
 abbrev pub followed : PoolSeen → PoolLine → PoolSeen
 followed seen line = record seen { lines = seen.lines ++ line ∷ [] }
 
--- and where there is none
+-- likewise, if there is one
 abbrev pub with_point : PoolSeen → Option Point → Option PoolSeen
 with_point seen point = option_map (λ p. pointed seen p) point
 
@@ -127,7 +128,7 @@ with_losses seen losses = if is_some seen.losses then None else option_map (λ l
 abbrev pub with_line : PoolSeen → Option PoolLine → Option PoolSeen
 with_line seen line = option_map (λ l. followed seen l) line
 
--- a script goes on by a line: points, and a choice for lost commands, come before all else
+-- a script with one more line: points, and a choice for lost commands, are before all else
 unfoldable pub read_more : PoolSeen → List ℕ → Option PoolSeen
 read_more seen line = do
   words ← cut_at_space line
@@ -137,12 +138,12 @@ read_more seen line = do
       then with_losses seen (losses_named words.1)
       else with_line seen (line_of seen.clients (servers_of seen) line)
 
--- and by all that follow, or the number of the first of them that is bad
+-- a script with all lines that follow, or the number of the first of them that is bad
 unfoldable pub read_all : PoolSeen → List (ℕ × List ℕ) → Result PoolSeen ℕ
 read_all seen [] = Ok seen
 read_all seen (line ∷ lines) = option_map_or (λ next. read_all next lines) (read_more seen line.1) (Err line.0)
 
--- the script of lines: the first one is the head, and no line at all is bad at line 1
+-- the script of lines: the first one is the head, and if there is none, line 1 is bad
 unfoldable pub pool_of_lines : List (ℕ × List ℕ) → Result PoolSeen ℕ
 pool_of_lines [] = Err 1
 pool_of_lines (line ∷ lines) = option_map_or (λ head. read_all head lines) (head_of line.1) (Err line.0)
@@ -151,7 +152,7 @@ pool_of_lines (line ∷ lines) = option_map_or (λ head. read_all head lines) (h
 abbrev pub pool_script_of : List ℕ → Result PoolSeen ℕ
 pool_script_of input = pool_of_lines (lines_from 1 input)
 
--- what is true of every script that is read
+-- what holds of every script that is read
 pub record IsPoolScript (seen : PoolSeen) : Type 0 where
   pub some_servers : 1 ≤ seen.servers
   pub few_servers : seen.servers ≤ 64
@@ -161,16 +162,16 @@ pub record IsPoolScript (seen : PoolSeen) : Type 0 where
   pub places : All (λ (p : Point). p.place < seen.servers) seen.points
   pub moments : All (λ line. HasMoment line (2 ^ 63)) seen.lines
 
--- whether a line was read, and what the script is then: as it goes on by it, or there is nothing that it goes on by
+-- whether a line was read: if so, this is the script with it, and otherwise the line is bad
 abbrev pub Gives : Bool → Option PoolSeen → PoolSeen → Type 0
 Gives true next new = next ≡ Some new
 Gives false next new = next ≡ None
 
--- the pairs of a ring of these servers, with points that were given, or with the servers' own where none were
+-- the pairs of a ring of these servers, with points that were given, or with the servers' own if none were
 abbrev pub pairs_of_pool : List (List ℕ) → List Point → List Point
 pairs_of_pool servers points = if length points == 0 then pairs_of servers else points
 
--- why there is no such ring
+-- why such a ring does not exist
 abbrev pub refusal_of_pool : List (List ℕ) → List Point → Option RingError
 refusal_of_pool servers points = if length points == 0 then refusal_of servers else refusal_of_points servers points
 

@@ -14,7 +14,7 @@ pub record IsPlayOf (input : List ℕ) (script : PoolSeen) : Type 0 where
   pub world : WorldState
   pub played : HasPlayed script steps world
 
--- a text is the lines of the clients of such a world: what was put out to each
+-- a text is the lines of the clients of such a world: the bytes that were emitted to each
 pub record IsPoolTextOf (input text : List ℕ) : Type 0 where
   pub script : PoolSeen
   pub play : IsPlayOf input script
@@ -27,7 +27,7 @@ pub record IsAccountOf (input text : List ℕ) : Type 0 where
   pub printed : text ≡ client_lines (outs_of script.clients play.world.course)
       ++ account_lines play.steps script.clients (length (servers_of script)) play.world.course
 
--- what each line of the script that an input is does, where a world plays it so
+-- what each line of the script that an input is does, if a world plays it
 pub record AreStepsOf (input : List ℕ) (steps : List Step) : Type 0 where
   pub script : PoolSeen
   pub read : pool_script_of input ≡ Ok script

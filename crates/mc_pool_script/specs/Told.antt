@@ -1,4 +1,5 @@
--- What is told of a world that has played a script, line by line. Source: this project's own.
+-- The printed account of a world that has played a script, line by line. Source: this project's
+-- own.
 use Rattle.std.specs.Prelude.{ℕ, Bool, List, [], ◌++◌, length, map, codes, decimal, if◌then◌else◌}
 use Rattle.std.specs.List.{flat_map, range_with_len}
 use Rattle.mc_history.specs.declared.entries.Entry.{Entry}
@@ -28,7 +29,7 @@ numbered words number = words ++ decimal number
 abbrev pub refusal_words : Bool → List ℕ
 refusal_words refused = if refused then codes ", refused" else []
 
--- whose an entry is, and whether its store was refused memory
+-- the name of an entry: its client, and whether its store was refused memory
 abbrev pub entry_name : ℕ → Entry → List ℕ
 entry_name place e =
     numbered (codes "server ") place ++ numbered (codes ", client ") e.client ++ numbered (codes ", request ") e.request
@@ -43,7 +44,7 @@ abbrev pub history_lines : ℕ → List Entry → List ℕ
 history_lines place entries =
     named_line (codes "history") place (decimal (length entries)) ++ flat_map (λ e. entry_line place e) entries
 
--- and those of the first servers, in order
+-- the lines of the first servers, in order
 abbrev pub histories_lines : ℕ → CourseState → List ℕ
 histories_lines servers course = flat_map (λ place. history_lines place (history_of course place)) (range_with_len 0 servers)
 

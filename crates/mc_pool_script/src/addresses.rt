@@ -11,7 +11,7 @@ use std::alloc::{AllocError, Global};
 /// The port of the first server.
 const FIRST_PORT: u64 = 11_211;
 
-/// The addresses of so many servers.
+/// The addresses of the first servers, this number of them.
 pub fn first_addresses(alloc: Global, count: u64) -> Result<Vec<Address>, SimError>
     requires { count ≤ 64 }
     ensures addresses { IfOk result (λ addresses. addresses.items ≡ first_servers count) }
@@ -49,7 +49,7 @@ fn first_address(alloc: Global, place: u64) -> Result<Address, SimError>
     Ok(address)
 }
 
-/// Its text.
+/// The text of the address of the server of a place.
 #[tactic(auto, unfolding(crate::specs::PoolScripts::first_server))]
 fn first_text(alloc: Global, place: u64) -> Result<Vec<u8>, AllocError>
     requires { place < 64 }

@@ -1,4 +1,4 @@
-//! Lines of clients, by what follows the line's name.
+//! Lines of clients, by the text after the line's name.
 ghost use Rattle.std.specs.Prelude.{◌≡◌, ◌^◌, IfOk, IfSome, IsOkUnless};
 ghost use Rattle.mc_pool_script.specs.PoolLines.{HasMoment, bytes_line, count_of, takes_line};
 

@@ -3,7 +3,7 @@ ghost use Rattle.std.specs.Prelude.{◌≡◌};
 ghost use Rattle.mc_pool_script.specs.Commands.{client_command, way_command, link_command};
 ghost use Rattle.mc_pool_script.specs.PoolLines.{command_of};
 
-/// What a line's name says.
+/// The command that a line's name stands for.
 #[derive(Clone, Copy, Debug, PartialEq, Eq)]
 pub enum Command {
     /// `bytes`

@@ -29,7 +29,7 @@ pub fn read_join(
     Ok(Some(PoolLine::Join(address)))
 }
 
-/// Whether a server cannot come after these: there are 64, or it is one of them.
+/// Whether a server cannot join these: there are 64, or it is one of them.
 fn is_refused(servers: &[Address], server: &Address) -> bool
     ensures { result ≡ is_some (refusal_of_more servers.now server.now) }
 {

@@ -1,23 +1,24 @@
 //! Scripts of events for a pool: read, checked, played and printed.
 //!
-//! [`is_of_pool`] tells such a script from one of a server. [`read_pool_script`] reads a script's bytes as a [`PoolScript`];
-//! [`PoolScript::ring`] is the ring that its pool begins with, [`PoolScript::losses`] its choice for lost commands, and
-//! [`PoolScript::lines`] are what comes, in order: an event of a world, a server that joins, or all that is left to do ([`PoolLine`]).
+//! [`is_of_pool`] distinguishes such a script from one of a server. [`read_pool_script`] reads a script's bytes as a [`PoolScript`];
+//! [`PoolScript::ring`] is the ring that its pool begins with, and [`PoolScript::losses`] its choice for lost commands.
+//! [`PoolScript::lines`] are its further lines, in order: an event of a world, a server that joins or restarts, or a drain
+//! ([`PoolLine`]).
 //!
-//! A script is lines of text. The first is `pool <servers> <clients> <budget> <items>`; lines
-//! `point <8 hexadecimal digits> <server>` straight after it give the ring's points, and one line `losses told` or
-//! `losses missed` among these the choice for lost commands; then one line each says what comes. What each means is said by the
-//! definitions in `specs/`; worked examples are in `src/rows.rt`. Lines, escapes and numbers are those of `mc_script`.
+//! A script is lines of text. The first is `pool <servers> <clients> <budget> <items>`. Lines `point <8 hexadecimal digits> <server>`
+//! straight after it give the ring's points, and one line `losses told` or `losses missed` among these gives the choice for lost
+//! commands. Then each line is one event. The definitions in `specs/` say what each line means; worked examples are in `src/rows.rt`.
+//! Lines, escapes and numbers are those of `mc_script`.
 //!
 //! # Played and printed
 //!
-//! [`text_of_pool_script`] goes from a script's bytes to what is printed for it: its contract is the main theorem, and holds of
-//! every input. [`account_of_pool_script`] prints the account of the play after that, and [`steps_of_pool_script`] says what each line
-//! did. A caller that wants the parts meets them in this order: [`played_script`] plays a script that was read, which gives a world and
-//! what each line did ([`Played`]); [`push_output_lines`] prints what was put out to the clients, and [`push_account`] the account.
+//! [`text_of_pool_script`] goes from a script's bytes to its printed text: its contract is the main theorem, and holds of every input.
+//! [`account_of_pool_script`] prints the account of the play after that, and [`steps_of_pool_script`] returns what each line did. A
+//! caller that wants the parts calls [`played_script`] first. It plays a script that was read, and returns a world and what each line
+//! did ([`Played`]). Then [`push_output_lines`] prints the bytes that were emitted to the clients, and [`push_account`] the account.
 //!
-//! Each server's cache keeps its items in a store of any kind that a script can be played over (`mc_script::ScriptStore`). What a
-//! script's lines do to a world is said by the definitions in `specs/`, over those of `mc_world`.
+//! Each server's cache keeps its items in a store of any kind that a script can be played over (`mc_script::ScriptStore`). The
+//! definitions in `specs/`, over those of `mc_world`, say what a script's lines do to a world.
 #![tactic(auto)]
 
 mod addresses;

@@ -1,4 +1,4 @@
-//! The choice for lost commands, by what follows the line's name.
+//! The choice for lost commands, by the text after the line's name.
 ghost use Rattle.std.specs.Prelude.{◌≡◌};
 ghost use Rattle.mc_pool_script.specs.PoolScripts.{losses_named};
 

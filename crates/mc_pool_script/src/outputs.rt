@@ -1,4 +1,4 @@
-//! What was put out to the clients of a world.
+//! The bytes that were emitted to the clients of a world.
 ghost use Rattle.std.specs.Prelude.{◌≡◌, ◌++◌, IsOkUnless, OnOk};
 ghost use Rattle.mc_script.specs.Escapes.{client_lines};
 ghost use Rattle.mc_pool_script.specs.Plays.{outs_of};
@@ -6,7 +6,7 @@ ghost use Rattle.mc_pool_script.specs.Plays.{outs_of};
 use mc_script::{ScriptStore, SimError, push_client_line};
 use mc_world::World;
 
-/// Puts the lines at the end of a text that say what was put out to the first clients.
+/// Appends lines to a text that show the bytes that were emitted to the first clients.
 pub fn push_output_lines<S: ScriptStore>(
     world: &World<S>,
     clients: usize,

@@ -21,13 +21,13 @@ use std::alloc::Global;
 /// A world that has played a script.
 #[derive(Drop)]
 pub struct Played<S: ScriptStore> {
-    /// The world as it is then.
+    /// The world after the script.
     pub world: World<S>,
     /// What each line did, in order. A server that joins or restarts is `Done`, and so is a drain.
     pub steps: Vec<Step>,
 }
 
-/// A world that has played a script: it took the lines in order.
+/// A world that has played a script: it executed the lines in order.
 pub fn played_script<S: ScriptStore>(
     alloc: Global,
     script: &PoolScript,
@@ -43,7 +43,7 @@ pub fn played_script<S: ScriptStore>(
     Ok(Played { world, steps })
 }
 
-/// One line.
+/// Plays one line.
 fn play<S: ScriptStore>(
     alloc: Global,
     world: &mut World<S>,
@@ -78,7 +78,7 @@ fn play<S: ScriptStore>(
     }
 }
 
-/// All that is left to do is done.
+/// Drains the world: does all that is left to do.
 fn drain<S: ScriptStore>(world: &mut World<S>, moment: u64) -> Result<(), SimError>
     requires moment { moment < 2 ^ 63 }
     ensures drains { OnOk result (Drains moment world.old.course world.new.course) }
@@ -94,7 +94,7 @@ fn drain<S: ScriptStore>(world: &mut World<S>, moment: u64) -> Result<(), SimErr
     }
 }
 
-/// A server joins.
+/// Lets a server join.
 fn join<S: ScriptStore>(
     alloc: Global,
     world: &mut World<S>,
@@ -116,7 +116,7 @@ fn join<S: ScriptStore>(
     }
 }
 
-/// A server restarts.
+/// Lets a server restart.
 fn restart<S: ScriptStore>(
     alloc: Global,
     world: &mut World<S>,

@@ -1,4 +1,4 @@
-//! Points of a ring, by what follows the line's name.
+//! Points of a ring, by the text after the line's name.
 ghost use Rattle.std.specs.Prelude.{◌≡◌, ◌<◌, IfSome};
 ghost use Rattle.mc_pool_script.specs.PoolScripts.{hex_of, point_of};
 

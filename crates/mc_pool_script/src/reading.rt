@@ -1,4 +1,4 @@
-//! A line of a pool script, by its name and what follows that.
+//! A line of a pool script, by its name and the text after that.
 ghost use Rattle.std.specs.Prelude.{◌≡◌, ◌^◌, IfOk, IfSome, IsOkUnless};
 ghost use Rattle.mc_pool_script.specs.PoolLines.{HasMoment, line_of, numbers_line};
 
@@ -12,7 +12,7 @@ use mc_script::{SimError, cut_at_space, read_moment, read_place};
 use mc_world::Event;
 use std::alloc::Global;
 
-/// What a line says, where so many clients and these servers are there.
+/// The meaning of a line, if there are this many clients and these servers.
 #[tactic(auto, unfolding(crate::specs::PoolLines::line_of))]
 pub fn read_line(
     alloc: Global,
@@ -37,7 +37,7 @@ pub fn read_line(
     }
 }
 
-/// What a line of a command says whose words are numbers alone, by what follows its name.
+/// The meaning of a line whose words are numbers alone, by its command and the text after its name.
 fn read_numbers(clients: u64, servers: usize, command: Command, text: &[u8]) -> Option<PoolLine>
     ensures line { result ≡ numbers_line clients servers command text.now }
     ensures moment { IfSome result (λ line. HasMoment line (2 ^ 63)) }

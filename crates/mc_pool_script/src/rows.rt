@@ -10,8 +10,8 @@ ghost use Rattle.mc_world.specs.declared.events.Event.TheVariants.{ClientBytes, 
 ghost use Rattle.mc_ring.specs.Points.{pair_at};
 ghost use Rattle.mc_route.specs.declared.losses.Losses.TheVariants.{Missed, Told};
 
-/// Lines of clients, where two are there: the text of `bytes` is the rest of the line, and a client that is not there makes
-/// a line bad.
+/// Lines of clients, with two clients: the text of `bytes` is the rest of the line, and a client that does not exist makes a line
+/// bad.
 pub fn lines_of_clients()
     ensures bytes { line_of 2 [] (codes "bytes 0 a b\\n") ≡ Some (Event (ClientBytes 0 (codes "a b\n"))) }
     ensures takes { line_of 2 [] (codes "takes 1 5") ≡ Some (Event (ClientTakes 1 5)) }
@@ -20,7 +20,7 @@ pub fn lines_of_clients()
     ensures wordless { line_of 2 [] (codes "bytes 0") ≡ None }
 {}
 
-/// Lines of servers, where one is there.
+/// Lines of servers, with one server.
 pub fn lines_of_servers()
     ensures arrives { line_of 1 (codes "a:1" ∷ []) (codes "toserver 0 1 20") ≡ Some (Event (ToServer 0 1 20)) }
     ensures serves { line_of 1 (codes "a:1" ∷ []) (codes "serve 0 2 100") ≡ Some (Event (ServerTurn 0 2 100)) }
@@ -35,7 +35,7 @@ pub fn lines_of_joins()
     ensures portless { line_of 1 (codes "a:1" ∷ []) (codes "join a") ≡ None }
 {}
 
-/// A server that is there restarts, also one that joined.
+/// A server that exists restarts, also one that joined.
 pub fn lines_of_restarts()
     ensures restarts { line_of 1 (codes "a:1" ∷ codes "a:2" ∷ []) (codes "restart 1") ≡ Some (Restart 1) }
     ensures absent { line_of 1 (codes "a:1" ∷ []) (codes "restart 1") ≡ None }
@@ -51,14 +51,14 @@ pub fn lines_of_drains()
     ensures wordy { line_of 1 [] (codes "drain 1 2") ≡ None }
 {}
 
-/// Points have eight digits, small or capital, and belong to a server that is there.
+/// Points have eight digits, small or capital, and belong to a server that exists.
 pub fn points_of_servers()
     ensures point { point_of 2 (codes "b975C10c 1") ≡ Some (pair_at 1 3111502092) }
     ensures short { point_of 2 (codes "b975c10 1") ≡ None }
     ensures absent { point_of 2 (codes "b975c10c 2") ≡ None }
 {}
 
-/// A choice for lost commands is one of two words. A line names it at most once, before all that comes; if none does, it is `told`.
+/// A choice for lost commands is one of two words. A line names it at most once, before all events; if none does, it is `told`.
 pub fn losses_of_scripts()
     ensures told { losses_named (codes "told") ≡ Some Told }
     ensures missed { losses_named (codes "missed") ≡ Some Missed }

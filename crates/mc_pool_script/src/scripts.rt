@@ -22,7 +22,7 @@ use std::marker::Model;
 /// The most clients.
 const MAX_CLIENTS: u64 = 1024;
 
-/// A pool script. Contracts see what it says.
+/// A pool script. Contracts see its content.
 #[derive(Drop)]
 pub struct PoolScript {
     servers: usize,
@@ -30,7 +30,7 @@ pub struct PoolScript {
     budget: u64,
     items: usize,
     points: Vec<Point>,
-    /// The choice for lost commands, if a line says it.
+    /// The choice for lost commands, if a line names it.
     losses: Option<Losses>,
     lines: Vec<PoolLine>,
     /// The addresses of all servers, those that join included.
@@ -82,7 +82,7 @@ impl PoolScript {
         self.items
     }
 
-    /// The choice for lost commands: [`Losses::Told`] if no line says it.
+    /// The choice for lost commands: [`Losses::Told`] if no line names it.
     pub fn losses(&self) -> Losses
         ensures losses { result ≡ losses_of self.now }
         ensures script { IsPoolScript self.now }
@@ -90,7 +90,7 @@ impl PoolScript {
         self.losses.unwrap_or(Losses::Told)
     }
 
-    /// What comes, in order.
+    /// The lines after the head, the points and the choice, in order.
     pub fn lines(&self) -> &[PoolLine]
         ensures lines { result.now ≡ self.now.lines }
         ensures script { IsPoolScript self.now }
@@ -98,7 +98,7 @@ impl PoolScript {
         self.lines.as_slice()
     }
 
-    /// How many servers are there once all lines were played: the first ones, and those that join.
+    /// The number of servers once all lines were played: the first ones, and those that join.
     pub fn server_count(&self) -> usize
         ensures { result ≡ length (servers_of self.now) }
     {
@@ -106,7 +106,7 @@ impl PoolScript {
     }
 
     /// The ring that the pool begins with: the first servers, with the points that the script gives, or with their own 160
-    /// each where it gives none.
+    /// each if it gives none.
     pub fn ring(&self, alloc: Global) -> Result<Ring, SimError>
         ensures ring { IfOk result (λ ring. IsOpeningRing self.now ring) }
         ensures only_memory { IsOkUnless result SimError.Memory }
@@ -118,7 +118,7 @@ impl PoolScript {
         }
     }
 
-    /// Goes on by a line, if it is one.
+    /// Adds a line to the script, if it is one, and returns whether it did.
     #[tactic(auto, unfolding(crate::specs::PoolScripts::read_more))]
     fn read(&mut self, alloc: Global, line: &[u8]) -> Result<bool, SimError>
         ensures read { IfOk result (λ more. Gives more (read_more self.old line.now) self.new) }
@@ -136,7 +136,7 @@ impl PoolScript {
         self.add_line(alloc, line)
     }
 
-    /// Goes on by a point.
+    /// Adds a point, if the text is one, and returns whether it did.
     fn add_point(&mut self, text: &[u8]) -> Result<bool, SimError>
         ensures read { IfOk result (λ more. Gives more (with_point self.old (point_of self.old.servers text.now)) self.new) }
         ensures only_memory { IsOkUnless result SimError.Memory }
@@ -148,7 +148,8 @@ impl PoolScript {
         Ok(true)
     }
 
-    /// Goes on by a choice for lost commands, if no line has named one before.
+    /// Adds a choice for lost commands, if the word names one and no line has named one before, and returns whether it
+    /// did.
     fn add_losses(&mut self, word: &[u8]) -> bool
         ensures { Gives result (with_losses self.old (losses_named word.now)) self.new }
     {
@@ -162,7 +163,7 @@ impl PoolScript {
         true
     }
 
-    /// Goes on by a line that says what comes.
+    /// Adds an event's line, if it is one, and returns whether it did.
     fn add_line(&mut self, alloc: Global, line: &[u8]) -> Result<bool, SimError>
         ensures read { IfOk result (λ more. Gives more (with_line self.old (line_of self.old.clients (servers_of self.old) line.now)) self.new) }
         ensures only_memory { IsOkUnless result SimError.Memory }
@@ -175,7 +176,7 @@ impl PoolScript {
         Ok(true)
     }
 
-    /// Goes on by what a line says. A server that joins has an address more.
+    /// Adds the meaning of a line. If a server joins, its address is added too.
     fn follow(&mut self, line: PoolLine) -> Result<(), AllocError>
         requires moment { HasMoment line (2 ^ 63) }
         ensures followed { OnOk result (self.new ≡ followed self.old line) }
@@ -189,7 +190,7 @@ impl PoolScript {
     }
 }
 
-/// A ring of these servers, with these points, or with the servers' own where there are none.
+/// A ring of these servers, with these points, or with the servers' own if there are none.
 fn made_ring(alloc: Global, servers: &[Address], points: &[Point]) -> Result<Ring, RingError>
     ensures servers { IfOk result (λ ring. ring.servers ≡ servers.now) }
     ensures points { IfOk result (λ ring. Shows (pairs_of_pool servers.now points.now) ring.points) }
@@ -201,7 +202,7 @@ fn made_ring(alloc: Global, servers: &[Address], points: &[Point]) -> Result<Rin
     Ring::of_points(alloc, servers, points)
 }
 
-/// The error of a ring that was refused memory alone.
+/// The error of a ring that failed only for want of memory.
 fn refused_memory(error: RingError) -> SimError
     requires { cause_of error ≡ None }
     ensures { result ≡ SimError.Memory }
@@ -220,7 +221,7 @@ pub fn copy_of(address: &Address) -> Result<Address, AllocError>
     address.clone()
 }
 
-/// The script that a text is. The first bad line from the top is answered, and no line at all is a bad line 1.
+/// The script that a text is. The error is the first bad line from the top, and a text without lines has a bad line 1.
 pub fn read_pool_script(alloc: Global, input: &[u8]) -> Result<PoolScript, SimError>
     ensures script { IfOk result (λ script. pool_script_of input.now ≡ Ok script) }
     ensures error { IfErr result (λ error. Explains error (pool_script_of input.now)) }
@@ -235,7 +236,7 @@ pub fn read_pool_script(alloc: Global, input: &[u8]) -> Result<PoolScript, SimEr
     read_rest(alloc, script, lines)
 }
 
-/// A script that goes on by all lines.
+/// Adds all lines to a script.
 fn read_rest(
     alloc: Global,
     mut script: PoolScript,
@@ -253,7 +254,7 @@ fn read_rest(
     Ok(script)
 }
 
-/// The script of a first line, which says no more.
+/// The script of a first line alone.
 fn read_head(alloc: Global, line: &[u8]) -> Result<Option<PoolScript>, SimError>
     ensures head { IfOk result (λ head. head ≡ head_of line.now) }
     ensures only_memory { IsOkUnless result SimError.Memory }

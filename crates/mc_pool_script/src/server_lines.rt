@@ -1,4 +1,4 @@
-//! Lines of servers and their links, by what follows the line's name.
+//! Lines of servers and their links, by the text after the line's name.
 ghost use Rattle.std.specs.Prelude.{◌≡◌, ◌^◌, ◌<◌, IfSome};
 ghost use Rattle.mc_script.specs.Numbers.{place_of};
 ghost use Rattle.mc_pool_script.specs.PoolLines.{HasMoment, end_line, serve_line, to_proxy_line, to_server_line};
@@ -69,7 +69,7 @@ pub fn read_end(servers: usize, text: &[u8]) -> Option<PoolLine>
     Some(PoolLine::Event(Event::ServerSeesEnd { server, generation }))
 }
 
-/// The place of a server that is there.
+/// The place of a server that exists.
 pub fn read_server(servers: usize, word: &[u8]) -> Option<usize>
     ensures place { result ≡ place_of servers word.now }
     ensures inside { IfSome result (λ place. place < servers) }

@@ -1,4 +1,4 @@
-//! What is told of a world that has played a script.
+//! The printed account of a world that has played a script.
 ghost use Rattle.std.specs.Prelude.{◌≡◌, ◌++◌, codes, decimal, OnOk};
 ghost use Rattle.mc_script.specs.Escapes.{named_line};
 ghost use Rattle.mc_pool_script.specs.Told.{account_lines, entry_line, entry_name, event_lines, histories_lines, history_lines, numbered, refusal_words, text_lines, word_of};
@@ -9,8 +9,8 @@ use mc_script::{ScriptStore, push_named_line};
 use mc_world::{Entry, Step, World};
 use std::alloc::{AllocError, Global};
 
-/// Puts the account of a play at the end of a text: what each line did, what each of the first clients sent, and what each
-/// of the first servers took.
+/// Appends the account of a play to a text: what each line did, what each of the first clients sent, and what each of the first
+/// servers took.
 pub fn push_account<S: ScriptStore>(
     alloc: Global,
     played: &Played<S>,
@@ -25,7 +25,7 @@ pub fn push_account<S: ScriptStore>(
     push_histories(alloc, &played.world, servers, out)
 }
 
-/// A line for each step.
+/// Appends a line for each step.
 fn push_event_lines(steps: &[Step], out: &mut Vec<u8>) -> Result<(), AllocError>
     ensures { OnOk result (out.new.items ≡ out.old.items ++ event_lines steps.now) }
 {
@@ -47,7 +47,7 @@ fn word_of(step: Step) -> &'static [u8]
     }
 }
 
-/// A line for each of the first clients, with its text.
+/// Appends a line for each of the first clients, with its text.
 fn push_text_lines<S: ScriptStore>(
     world: &World<S>,
     clients: usize,
@@ -61,7 +61,7 @@ fn push_text_lines<S: ScriptStore>(
     Ok(())
 }
 
-/// The histories of the first servers. One buffer holds the name of each entry in turn.
+/// Appends the histories of the first servers. One buffer holds the name of each entry in turn.
 fn push_histories<S: ScriptStore>(
     alloc: Global,
     world: &World<S>,
@@ -77,7 +77,7 @@ fn push_histories<S: ScriptStore>(
     Ok(())
 }
 
-/// The lines of a server's history. The buffer is for the name of an entry: what it holds before is of no meaning.
+/// Appends the lines of a server's history. The buffer is for the name of an entry: its content before the call has no meaning.
 fn push_history(
     place: usize,
     entries: &[Entry],
@@ -93,7 +93,7 @@ fn push_history(
     Ok(())
 }
 
-/// How many commands a server took.
+/// Appends the number of commands that a server took.
 fn push_count(place: usize, count: usize, out: &mut Vec<u8>) -> Result<(), AllocError>
     ensures { OnOk result (out.new.items ≡ out.old.items ++ named_line (codes "history") place (decimal count)) }
 {
@@ -106,7 +106,7 @@ fn push_count(place: usize, count: usize, out: &mut Vec<u8>) -> Result<(), Alloc
     )
 }
 
-/// The line of an entry. The buffer is for its name.
+/// Appends the line of an entry. The buffer is for its name.
 fn push_entry(
     place: usize,
     entry: &Entry,
@@ -119,8 +119,8 @@ fn push_entry(
     push_named_line(name.as_slice(), entry.moment, entry.reply.as_slice(), out)
 }
 
-/// Writes to a buffer, in the place of what it held, whose an entry is and whether its store was refused memory. The buffer keeps its
-/// room, so it asks for memory only where a name is longer than those before.
+/// Writes the name of an entry to a buffer, in place of its content: its client, and whether its store was refused memory. The buffer
+/// keeps its room, so it asks for memory only if a name is longer than those before.
 fn write_entry_name(place: usize, entry: &Entry, name: &mut Vec<u8>) -> Result<(), AllocError>
     ensures { OnOk result (name.new.items ≡ entry_name place entry.now) }
 {
@@ -140,7 +140,7 @@ fn refusal_words(refused: bool) -> &'static [u8]
     if refused { b", refused" } else { b"" }
 }
 
-/// Words and a number.
+/// Appends words and a number.
 fn push_numbered(words: &[u8], number: u64, out: &mut Vec<u8>) -> Result<(), AllocError>
     ensures { OnOk result (out.new.items ≡ out.old.items ++ numbered words.now number) }
 {

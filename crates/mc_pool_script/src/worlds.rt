@@ -28,7 +28,7 @@ pub fn opened_world<S: ScriptStore>(
     Ok(world)
 }
 
-/// An empty store for each of so many servers.
+/// This number of empty stores, one for each server.
 fn empty_stores<S: ScriptStore>(
     alloc: Global,
     count: usize,

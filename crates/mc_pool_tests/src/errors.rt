@@ -1,4 +1,4 @@
-//! How errors read.
+//! The texts of errors.
 
 use mc_link::LinkError;
 use mc_proxy::ProxyError;

@@ -1,13 +1,13 @@
-//! What the tests lend to a run: clocks, and gates.
+//! What a run borrows from the tests: clocks, and gates.
 
 use mc_threads::{Clock, Gate, REFUSALS};
 use std::sync::atomic::{AtomicU64, Ordering};
 use std::thread;
 
-/// So often a server looks for another one that did not come yet.
+/// How often a server looks for another one that has not arrived yet.
 const LOOKS: u64 = 10_000_000;
 
-/// A clock that gives one moment again and again, or none.
+/// A clock that gives one moment repeatedly, or none.
 #[derive(Drop)]
 pub struct Ticks {
     pub times: Vec<u64>,
@@ -30,7 +30,7 @@ impl Clock for Ticks {
     }
 }
 
-/// Looks at a count so often until it is as large, and says whether it was.
+/// Looks at a count up to this often until it is as large, and returns whether it was.
 fn reaches(count: &AtomicU64, least: u64, looks: u64) -> bool {
     for _ in 0..looks {
         if count.load(Ordering::SeqCst) >= least {
@@ -41,7 +41,7 @@ fn reaches(count: &AtomicU64, least: u64, looks: u64) -> bool {
     false
 }
 
-/// How often a server's gate was asked, and how many requests it was told of.
+/// How often a server's gate was asked, and of how many requests it was notified.
 #[derive(Drop)]
 pub struct Calls {
     pub asked: AtomicU64,
@@ -58,8 +58,8 @@ impl Calls {
     }
 }
 
-/// A gate that is open or shut, and counts its calls. At the first request of a server it waits until each other server has come to its
-/// own first one.
+/// A gate that is open or shut, and counts its calls. At the first request of a server it waits until each other server has taken its
+/// first one.
 #[derive(Drop)]
 pub struct Meeting {
     pub is_open: bool,
@@ -70,7 +70,7 @@ pub struct Meeting {
 }
 
 impl Meeting {
-    /// A gate for so many servers, at most five.
+    /// A gate for this number of servers, at most five.
     pub fn of(servers: usize, is_open: bool) -> Self {
         Meeting {
             is_open,
@@ -146,7 +146,7 @@ pub struct ShutForOne {
 }
 
 impl ShutForOne {
-    /// One that was not asked yet.
+    /// A gate that was not asked yet.
     pub fn new() -> Self {
         ShutForOne {
             asked: AtomicU64::new(0),

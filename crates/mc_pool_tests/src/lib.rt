@@ -1,13 +1,13 @@
-//! Tests of rings, links, proxies and worlds, of what no clause says and no script can bring about.
+//! Tests of rings, links, proxies and worlds, for what no clause says and no script can bring about.
 //!
-//! `mc_server_tests` has those of servers. What is expected is worked out by hand from the protocol's rules, or is another program's
-//! figure, and is never taken from what the program wrote.
+//! `mc_server_tests` has the tests of servers. The expected answers are worked out by hand from the protocol's rules, or are another
+//! program's figures, and are never taken from what the program wrote.
 //!
 //! # Threads
 //!
-//! Tests of a pool on threads: worked rows over several servers, and that their threads run at the same time.
+//! Tests of a pool on threads: worked examples over several servers, and a test that their threads run at the same time.
 //!
-//! No clause says that threads run side by side: here a gate lets no server go on before each other server has taken a request.
+//! No clause says that threads run side by side. Here a gate holds each server back until each other server has taken a request.
 #![tactic(auto)]
 
 #[cfg(test)]

@@ -1,4 +1,4 @@
-//! The marks at which a session's turns wait, to the byte.
+//! The high-water marks at which a session's turns wait, to the byte.
 
 use crate::pools::{ONE, pool};
 use mc_proxy::{Emit, LINK_MARK, LinkTurn, MAX_UNANSWERED, Proxy, ProxyError, Turn, UNSENT_MARK};
@@ -10,13 +10,13 @@ const GET: &[u8] = b"get a\r\n";
 /// A value of 1,048,576 bytes: a set of it has 1,048,597 bytes, and an answer 1,048,602.
 const SIXTEENS: usize = 65_536;
 
-/// What the turn does that follows on a request.
+/// The result of the turn after a request.
 fn ask(proxy: &mut Proxy, request: &[u8]) -> Result<Turn, ProxyError> {
     proxy.feed(0, request)?;
     proxy.turn(0)
 }
 
-/// Whether a request is taken so many times, one after another.
+/// Whether a request is taken this number of times in sequence.
 fn is_taken(proxy: &mut Proxy, request: &[u8], times: usize) -> Result<bool, ProxyError> {
     let mut is_so = true;
     for _ in 0..times {
@@ -31,19 +31,19 @@ fn is_reply(proxy: &mut Proxy, reply: &[u8]) -> Result<bool, ProxyError> {
     Ok(proxy.link_turn(0)? == LinkTurn::Took)
 }
 
-/// What the turn does that follows on so many bytes that were sent to the client.
+/// The result of the turn after this number of bytes were sent to the client.
 fn turn_after(proxy: &mut Proxy, sent: usize) -> Result<Turn, ProxyError> {
     proxy.taken_out(0, sent.min(proxy.output(0).len()));
     proxy.turn(0)
 }
 
-/// What the turn does that follows on so many bytes that were sent to the server.
+/// The result of the turn after this number of bytes were sent to the server.
 fn turn_after_link(proxy: &mut Proxy, sent: usize) -> Result<Turn, ProxyError> {
     proxy.link_taken_out(0, sent.min(proxy.link_output(0).len()));
     proxy.turn(0)
 }
 
-/// 1,024 requests are unanswered: the next one waits until an answer is put out.
+/// 1,024 requests are unanswered: the next one waits until an answer is emitted.
 fn unanswered(proxy: &mut Proxy) -> Result<bool, ProxyError> {
     let are_taken = is_taken(proxy, GET, MAX_UNANSWERED)?;
     let waits = ask(proxy, GET)? == Turn::Waiting;
@@ -53,7 +53,7 @@ fn unanswered(proxy: &mut Proxy) -> Result<bool, ProxyError> {
     Ok(are_taken && waits && still && is_out && then)
 }
 
-/// Eight sets wait to be sent, 168 bytes more than the mark: the request after them waits until 169 are sent.
+/// Eight sets are unsent, 168 bytes more than the mark: the request after them waits until 169 are sent.
 fn unsent_on_a_link(proxy: &mut Proxy, set: &[u8]) -> Result<bool, ProxyError> {
     let are_taken = is_taken(proxy, set, 8)? && proxy.link_output(0).len() == LINK_MARK + 168;
     let waits = ask(proxy, GET)? == Turn::Waiting;
@@ -62,7 +62,7 @@ fn unsent_on_a_link(proxy: &mut Proxy, set: &[u8]) -> Result<bool, ProxyError> {
     Ok(are_taken && waits && still && then)
 }
 
-/// Four answers wait to be sent, 104 bytes more than the mark: the next request waits until 105 are sent.
+/// Four answers are unsent, 104 bytes more than the mark: the next request waits until 105 are sent.
 fn unsent_to_a_client(proxy: &mut Proxy, answer: &[u8]) -> Result<bool, ProxyError> {
     let mut are_out = true;
     for _ in 0..4 {

@@ -10,24 +10,25 @@ use mc_server_tests::again;
 use std::alloc::Global;
 use std::test::Fail;
 
-/// A step of a dialogue, with what it is to bring.
+/// A step of a dialogue, with its expected result.
 #[derive(Drop)]
 enum Step {
-    /// A client sends bytes, and its session takes so many requests, and no more.
+    /// A client sends bytes, and its session takes exactly this number of requests.
     Asks(u64, &'static [u8], usize),
-    /// So much is to be sent to a server, and is.
+    /// Exactly these bytes are unsent to a server, and are sent.
     Sends(usize, &'static [u8]),
-    /// A server's bytes come, one at a time, with a turn of the link after each; the last turn answers this.
+    /// A server's bytes arrive, one at a time, with a turn of the link after each; the last turn returns this.
     Hears(usize, &'static [u8], LinkTurn),
-    /// So many answers are put out, and no more are known. So much is then to be sent to the client, and is.
+    /// This number of answers are emitted, and no more are known. Then exactly these bytes are unsent to the client, and are
+    /// sent.
     Tells(u64, usize, &'static [u8]),
     /// A link is lost, and these bytes were not sent.
     Loses(usize, &'static [u8]),
-    /// A link is back, in this generation.
+    /// A link comes up, in this generation.
     Returns(usize, u64),
     /// A client goes.
     Goes(u64),
-    /// A client comes, under this number.
+    /// A client connects, under this number.
     Comes(u64),
     /// A server of this address joins at this place, and its link is up.
     Joins(&'static [u8], usize),
@@ -35,9 +36,9 @@ enum Step {
 
 use Step::{Asks, Comes, Goes, Hears, Joins, Loses, Returns, Sends, Tells};
 
-/// `a` belongs to the second server, `abc` and `b` to the first. Both links are up, and two clients are there.
+/// `a` belongs to the second server, `abc` and `b` to the first. Both links are up, and two clients are admitted.
 const DIALOGUES: [&[Step]; 10] = [
-    // two clients, each answered in the order of its keys and requests, though replies come in another
+    // two clients, each answered in the order of its keys and requests, though replies arrive in another
     &[
         Asks(0, b"get abc a\r\n", 1),
         Asks(1, b"get abc\r\nget a\r\n", 2),
@@ -59,7 +60,7 @@ const DIALOGUES: [&[Step]; 10] = [
         ),
         Tells(1, 2, b"VALUE abc 0 1\r\nz\r\nEND\r\nEND\r\n"),
     ],
-    // a server is sent one spelling of each command, without what the proxy answers itself
+    // a server is sent one spelling of each command, without the requests that the proxy answers itself
     &[
         Asks(
             0,
@@ -99,7 +100,8 @@ const DIALOGUES: [&[Step]; 10] = [
         ),
         Tells(0, 2, b"SERVER_ERROR out of memory storing object\r\n"),
     ],
-    // what waits on a link is lost with it, what is asked while it is down too, and nothing is sent again
+    // commands that are pending on a link are lost with it, and so are those that arrive while it is down; nothing is sent
+    // again
     &[
         Asks(0, b"incr a 1\r\nget abc\r\n", 2),
         Loses(1, b"incr a 1\r\n"),
@@ -116,7 +118,7 @@ const DIALOGUES: [&[Step]; 10] = [
             b"SERVER_ERROR link lost\r\nEND\r\nSERVER_ERROR link lost\r\nSERVER_ERROR link lost\r\nVALUE a 0 1\r\n1\r\nEND\r\n",
         ),
     ],
-    // strange bytes lose the link, at their first strange byte, and what waits on it for whichever client
+    // a protocol violation loses the link, at its first byte, and the pending commands of all clients
     &[
         Asks(0, b"get a\r\nincr a 1\r\n", 2),
         Asks(1, b"get a\r\n", 1),
@@ -137,7 +139,7 @@ const DIALOGUES: [&[Step]; 10] = [
         Hears(1, b"EN\r\n", Took),
         Tells(0, 3, b"ERROR\r\n"),
     ],
-    // what a client asked who is gone is sent; one that comes later is told nothing of it, and all of its own, over a loss too
+    // requests of a client that has gone are sent; a later client gets no answer to them, and all of its own, over a loss too
     &[
         Asks(0, b"get abc\r\nset a 0 0 1\r\nx\r\n", 2),
         Goes(0),
@@ -163,7 +165,7 @@ const DIALOGUES: [&[Step]; 10] = [
         ),
         Tells(1, 0, b""),
     ],
-    // of a reply that was cut off nothing is told, and nothing of it is before what comes once the link is back
+    // nothing of a truncated reply is sent on, and nothing of it is before the bytes that arrive once the link is up
     &[
         Asks(0, b"get a abc\r\nmg abc v q\r\n", 2),
         Sends(0, b"get abc\r\nmg YWJj b v\r\n"),
@@ -182,7 +184,8 @@ const DIALOGUES: [&[Step]; 10] = [
         Hears(0, b"VALUE abc 0 1\r\nz\r\nEND\r\n", Took),
         Tells(0, 1, b"VALUE abc 0 1\r\nz\r\nEND\r\n"),
     ],
-    // a server that joins is sent what it owns from then on, among it what belonged to another, and no item moves to it
+    // a server that joins is sent the commands of the keys that it owns from then on, even if another owned them before, and
+    // no item moves to it
     &[
         Asks(0, b"set b 7 0 2\r\nxy\r\nget b\r\n", 2),
         Joins(b"127.0.0.1:11213", 2),
@@ -203,7 +206,7 @@ const DIALOGUES: [&[Step]; 10] = [
             b"STORED\r\nVALUE b 7 2\r\nxy\r\nEND\r\nVALUE a 0 1\r\nx\r\nEND\r\nHD\r\nVA 2 f7 kb O1\r\nxy\r\n",
         ),
     ],
-    // where both links are down each command is lost, and what needs no server is answered
+    // while both links are down each command is lost, and requests that need no server are answered
     &[
         Loses(0, b""),
         Loses(1, b""),
@@ -214,7 +217,8 @@ const DIALOGUES: [&[Step]; 10] = [
             b"SERVER_ERROR link lost\r\nSERVER_ERROR link lost\r\nVERSION 1.6.0\r\n",
         ),
     ],
-    // a reply that its command cannot have loses the link at the first byte that shows it, and all that wait are answered
+    // a reply that its command cannot have loses the link at the first byte that shows it, and all pending commands are
+    // answered
     &[
         Asks(0, b"set a 0 0 1\r\nx\r\nget a\r\n", 2),
         Hears(1, b"STORED\n", Strange),
@@ -251,9 +255,9 @@ const DIALOGUES: [&[Step]; 10] = [
     ],
 ];
 
-/// The same pool, whose lost commands are missed.
+/// The pool of the dialogues above, whose lost commands are missed.
 const MISSED: [&[Step]; 3] = [
-    // of four keys those of the living server are shown: where the link is lost while they wait, and where it is down
+    // a get of four keys shows those of the living server: if the link is lost while they are pending, and if it is down
     &[
         Asks(0, b"get abc a b a\r\n", 1),
         Sends(0, b"get abc\r\nget b\r\n"),
@@ -270,7 +274,7 @@ const MISSED: [&[Step]; 3] = [
         Hears(0, b"VALUE abc 0 1\r\ny\r\nEND\r\n", Took),
         Tells(0, 2, b"VALUE abc 0 1\r\ny\r\nEND\r\nEND\r\n"),
     ],
-    // what hides its reply is silent, so that the next answer is that of the next request
+    // a request that hides its reply is silent, so that the next answer is that of the next request
     &[
         Asks(0, b"set a 0 0 1 noreply\r\nx\r\n", 1),
         Loses(1, b"set a 0 0 1\r\nx\r\n"),
@@ -284,7 +288,7 @@ const MISSED: [&[Step]; 3] = [
         Hears(0, b"VALUE abc 0 1\r\ny\r\nEND\r\n", Took),
         Tells(0, 8, b"VALUE abc 0 1\r\ny\r\nEND\r\nEN\r\nMN\r\n"),
     ],
-    // what changes items, and does not hide its reply, is told of its loss; and a fault is told
+    // a request that changes items, and does not hide its reply, is answered that it was lost; and a fault is answered
     &[
         Loses(1, b""),
         Asks(0, b"incr a 1\r\nadd a 0 0 1\r\nx\r\ndelete a\r\n", 3),
@@ -383,7 +387,7 @@ fn join_once(proxy: &mut Proxy, alloc: Global, address: &[u8]) -> Result<usize, 
     proxy.join_server(address, true)
 }
 
-/// Whether a step brings what it is to bring.
+/// Whether a step has its expected result.
 fn goes_so(alloc: Global, proxy: &mut Proxy, step: &Step) -> Result<bool, ProxyError> {
     Ok(match step {
         Asks(session, bytes, count) => {
@@ -419,7 +423,7 @@ fn taken(proxy: &mut Proxy, session: u64) -> Result<usize, ProxyError> {
     Ok(MANY)
 }
 
-/// How many answers are put out, until no more is known.
+/// How many answers are emitted, until no more is known.
 fn emitted(proxy: &mut Proxy, session: u64) -> Result<usize, ProxyError> {
     for count in 0..MANY {
         if emit(proxy, session)? != Emit::Done {
@@ -429,7 +433,7 @@ fn emitted(proxy: &mut Proxy, session: u64) -> Result<usize, ProxyError> {
     Ok(MANY)
 }
 
-/// Sends a server all that is to be sent, and says whether it is this.
+/// Sends a server all unsent bytes, and returns whether they are these.
 fn sends(proxy: &mut Proxy, server: usize, wanted: &[u8]) -> bool {
     let is_so = proxy.link_output(server) == wanted;
     let count = proxy.link_output(server).len();
@@ -437,7 +441,7 @@ fn sends(proxy: &mut Proxy, server: usize, wanted: &[u8]) -> bool {
     is_so
 }
 
-/// Sends a client all that is to be sent, and says whether it is this.
+/// Sends a client all unsent bytes, and returns whether they are these.
 fn tells(proxy: &mut Proxy, session: u64, wanted: &[u8]) -> bool {
     let is_so = proxy.output(session) == wanted;
     let count = proxy.output(session).len();
@@ -445,7 +449,7 @@ fn tells(proxy: &mut Proxy, session: u64, wanted: &[u8]) -> bool {
     is_so
 }
 
-/// A server's bytes, one at a time; what the link's last turn answered.
+/// Feeds a server's bytes, one at a time, and returns the link's last turn.
 fn hears(proxy: &mut Proxy, server: usize, bytes: &[u8]) -> Result<LinkTurn, ProxyError> {
     let mut last = Idle;
     for byte in bytes {
@@ -455,7 +459,7 @@ fn hears(proxy: &mut Proxy, server: usize, bytes: &[u8]) -> Result<LinkTurn, Pro
     Ok(last)
 }
 
-/// Whether each step of a dialogue brings what it is to bring.
+/// Whether each step of a dialogue has its expected result.
 fn goes_on_so(alloc: Global, losses: Losses, steps: &[Step]) -> Result<bool, ProxyError> {
     let mut proxy = pool_of_two(alloc, losses)?;
     for step in steps {

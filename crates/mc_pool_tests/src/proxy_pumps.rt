@@ -11,7 +11,7 @@ use mc_stream::Tally;
 use std::alloc::{AllocError, Global};
 use std::test::Fail;
 
-/// What a client sends, and what it is answered for each of its requests, with whether that is sent to a server.
+/// The bytes that a client sends, and the answer to each of its requests, with whether that request is sent to a server.
 struct Exchange {
     sent: &'static [u8],
     answers: &'static [(&'static [u8], bool)],
@@ -53,7 +53,7 @@ const EXCHANGES: [Exchange; 3] = [
 /// The most requests of an exchange.
 const REQUESTS: usize = 7;
 
-/// What a client is told where the first `known` of its requests were answered, and the link was lost then.
+/// The bytes that a client is sent if the first `known` of its requests were answered, and the link was lost then.
 fn told(alloc: Global, exchange: &Exchange, known: usize) -> Result<Vec<u8>, AllocError> {
     let mut told = Vec::new(alloc);
     for (at, (answer, is_sent)) in exchange.answers.iter().enumerate() {
@@ -68,7 +68,7 @@ fn told(alloc: Global, exchange: &Exchange, known: usize) -> Result<Vec<u8>, All
     Ok(told)
 }
 
-/// Whether a client was answered, or from some request on was told that the link is lost.
+/// Whether a client was sent its answers, or from some request on the line of a lost link.
 fn is_told(alloc: Global, exchange: &Exchange, taken: &[u8]) -> Result<bool, AllocError> {
     for known in 0..=REQUESTS {
         if told(alloc, exchange, known)?.as_slice() == taken {
@@ -99,7 +99,7 @@ fn new_pool(alloc: Global, sides: Sides) -> Result<Pool, Fail> {
     })
 }
 
-/// A link that was lost is back, over a stream and a connection of its own.
+/// Brings a lost link up, over a new stream and a new connection.
 fn mend(alloc: Global, pool: &mut Pool, sides: Sides) -> Result<(), Fail> {
     if !pool.proxy.is_up(0) {
         pool.server.close(pool.number)?;
@@ -110,7 +110,7 @@ fn mend(alloc: Global, pool: &mut Pool, sides: Sides) -> Result<(), Fail> {
     Ok(())
 }
 
-/// The server takes what was written to it, and what it answers can be read.
+/// The server takes the bytes that were written to it, and its answers can be read.
 fn serve(server: &mut Server<MeagreStore>, number: u64, link: &mut Stream) -> Result<(), Fail> {
     server.feed(number, link.sink.taken.as_slice())?;
     link.sink.taken.clear();
@@ -122,7 +122,7 @@ fn serve(server: &mut Server<MeagreStore>, number: u64, link: &mut Stream) -> Re
     Ok(())
 }
 
-/// Pumps the link, and loses it where that fails, or the server's input has ended.
+/// Pumps the link, and loses it if that fails, or if the server's input has ended.
 fn pump_server(proxy: &mut Proxy, link: &mut Stream, woken: &mut Vec<u64>) -> Result<(), Fail> {
     let mut piece = [0u8; 16];
     let Stream { source, sink } = link;
@@ -133,7 +133,7 @@ fn pump_server(proxy: &mut Proxy, link: &mut Stream, woken: &mut Vec<u64>) -> Re
     Ok(())
 }
 
-/// Pumps a session and the link in turn until the session is done or failed, and says which.
+/// Pumps a session and the link in turn until the session is done or failed, and returns which.
 fn pumped(
     pool: &mut Pool,
     session: u64,
@@ -162,8 +162,8 @@ fn pumped(
     Ok(Pumped::Again)
 }
 
-/// Plays an exchange in a session of its own, whose client then goes. It gives the last pump, the calls that were made on
-/// the client's stream, and what the client was sent.
+/// Plays an exchange in a session of its own, whose client then goes. It returns the last pump, the calls that were made on
+/// the client's stream, and the bytes that the client was sent.
 fn play(
     alloc: Global,
     pool: &mut Pool,
@@ -178,7 +178,7 @@ fn play(
     Ok((last, client.sides(), client.sink.taken))
 }
 
-/// The calls on the stream of a client that is answered whole, if it is.
+/// The calls on the client's stream, if the client gets all its answers.
 fn calls_of(
     alloc: Global,
     pool: &mut Pool,
@@ -191,7 +191,7 @@ fn calls_of(
     Ok(is_whole.then_some(made))
 }
 
-/// What ends a stream: whether it is the link's, whether a write does it, and how the call goes.
+/// A way to end a stream: whether the stream is the link's, whether a write ends it, and how the call goes.
 type End = (bool, bool, Call);
 
 /// Each read fails, and each write fails or takes nothing; and the server's end of the link is closed.
@@ -213,7 +213,7 @@ struct Streams {
 }
 
 impl Streams {
-    /// The same, but for one call, which ends its stream so.
+    /// These streams, with one call replaced, which ends its stream so.
     fn with(self, (is_link, is_write, call): End, number: usize) -> Self {
         if is_link {
             let link = self.link.with(is_write, number, call);
@@ -231,9 +231,9 @@ impl Streams {
     }
 }
 
-/// Whether it is right how an exchange goes of which one call ends its stream. Where that is the client's, the client was sent
-/// a beginning of its answers; where it is the link's, it was told of each request the answer, or that the link is lost. The
-/// next client of the same proxy is answered whole, once the link is back.
+/// Whether an exchange goes right when one call ends a stream. If that is the client's, the client was sent a beginning of its
+/// answers. If it is the link's, the client was sent for each request the answer, or the line of a lost link. The next client
+/// of the same proxy gets all its answers, once the link is up.
 fn ends_alone(
     alloc: Global,
     exchange: &Exchange,
@@ -255,7 +255,7 @@ fn ends_alone(
     Ok(is_so && next.is_some())
 }
 
-/// Whether an exchange is answered whole where no call ends a stream, and right whichever of its calls does.
+/// Whether an exchange gets all its answers if no call ends a stream, and goes right whichever of its calls does.
 fn is_pumped(alloc: Global, exchange: &Exchange, calm: Streams) -> Result<bool, Fail> {
     let mut pool = new_pool(alloc, calm.link)?;
     let Some(client) = calls_of(alloc, &mut pool, exchange, calm.client)? else {
@@ -274,7 +274,7 @@ fn is_pumped(alloc: Global, exchange: &Exchange, calm: Streams) -> Result<bool, 
     Ok(is_so)
 }
 
-/// The client's stream goes by each pair of scripts, and the link's by another.
+/// The client's stream follows each pair of scripts, and the link's another.
 #[test]
 fn proxy_pump_never_works(rt: HostRuntime) -> Result<(), Fail> {
     for exchange in &EXCHANGES {

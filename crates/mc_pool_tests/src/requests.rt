@@ -1,4 +1,4 @@
-//! A request that its caller keeps: its commands with their servers, and what stays of it for the answer.
+//! A request that its caller keeps: its commands with their servers, and the part that its answer needs.
 
 use crate::pools::{TWO, ring};
 use mc_request::Request;
@@ -17,7 +17,7 @@ fn request_of(alloc: Global, text: &[u8]) -> Result<Request, Fail> {
     }
 }
 
-/// How many commands a request has by each way, and its answer where they are lost.
+/// How many commands a request has by each way, and its answer if they are lost.
 fn routed(alloc: Global, request: Request) -> Result<(usize, usize, Vec<u8>), Fail> {
     let ring = ring(alloc, &TWO)?;
     let copied = atoms(alloc, &request, &ring)?.len();

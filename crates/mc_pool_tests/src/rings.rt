@@ -1,12 +1,12 @@
-//! Rings against figures that others compute.
+//! Rings, compared with figures that other programs compute.
 
 use mc_ring::{Address, Point, Ring, RingError};
 use mc_text::Key;
 use std::alloc::Global;
 use std::test::Fail;
 
-/// What is known of the ring of `127.0.0.1:11211` and the next ports, and of the owners of `k0` to `k999`. The
-/// figures are those of Python's hashlib.
+/// The known figures of the ring of `127.0.0.1:11211` and the next ports, and of the owners of `k0` to `k999`. They are computed by
+/// Python's hashlib.
 struct Known {
     servers: usize,
     points: usize,
@@ -14,7 +14,7 @@ struct Known {
     ends: (u32, u32),
     /// The sum of all points.
     sum: u64,
-    /// What [`owners`] gives.
+    /// The value of [`owners`].
     owners: u64,
 }
 
@@ -66,7 +66,7 @@ fn owners(alloc: Global, ring: &Ring) -> Result<u64, Fail> {
     Ok(owners)
 }
 
-/// A ring grows by one server after another; one with its points given is the same.
+/// A ring grows by one server at a time; one with its points given is equal to it.
 #[test]
 fn points_and_owners_are_those_of_others(rt: HostRuntime) -> Result<(), Fail> {
     let alloc = rt.alloc();
@@ -110,8 +110,8 @@ fn taken_by_the_joined(alloc: Global, before: &Ring, after: &Ring) -> Result<Opt
     Ok(Some(taken))
 }
 
-/// A server that joins takes keys, and no other does: of a server with one point, the hash of `a`, all; of two servers, as many as hashlib
-/// gives.
+/// A server that joins takes keys, and the owners of all others stay. From a server with one point, the hash of `a`, it takes all keys;
+/// from two servers as many as hashlib computes.
 #[test]
 fn keys_stay_or_go_to_the_server_that_joins(rt: HostRuntime) -> Result<(), Fail> {
     let alloc = rt.alloc();

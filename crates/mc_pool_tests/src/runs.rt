@@ -24,10 +24,10 @@ const ASKED: &[u8] =
 const ANSWERED: &[u8] =
     b"STORED\r\nNOT_STORED\r\nSTORED\r\nNOT_STORED\r\nVALUE a 0 2\r\nxz\r\nEND\r\nDELETED\r\nNOT_FOUND\r\n";
 
-/// What the clocks of servers give that do not fail.
+/// The moments of servers' clocks that do not fail.
 const MOMENTS: [Option<u32>; 5] = [Some(100); 5];
 
-/// The first so many addresses.
+/// The first addresses, this number of them.
 fn addresses(alloc: Global, servers: usize) -> Result<Vec<Address>, RingError> {
     let mut all = Vec::new(alloc);
     for address in ADDRESSES.iter().take(servers) {
@@ -36,7 +36,7 @@ fn addresses(alloc: Global, servers: usize) -> Result<Vec<Address>, RingError> {
     Ok(all)
 }
 
-/// A ring of the first so many addresses.
+/// A ring of the first addresses, this number of them.
 fn ring_of(alloc: Global, servers: usize) -> Result<Ring, RingError> {
     Ring::new(alloc, addresses(alloc, servers)?.as_slice())
 }
@@ -56,7 +56,7 @@ fn ring_of_two(alloc: Global) -> Result<Ring, RingError> {
     Ring::of_points(alloc, addresses(alloc, 2)?.as_slice(), points.as_slice())
 }
 
-/// The first so many clocks, each of which gives its moment.
+/// The first clocks, this number of them, each of which gives its moment.
 fn clocks(alloc: Global, count: usize, moments: &[Option<u32>]) -> Result<Vec<Ticks>, Fail> {
     let mut all = Vec::new(alloc);
     for &moment in moments.iter().take(count) {
@@ -68,7 +68,7 @@ fn clocks(alloc: Global, count: usize, moments: &[Option<u32>]) -> Result<Vec<Ti
     Ok(all)
 }
 
-/// So many clients that send so many pieces each, all the same.
+/// This number of clients, each of which sends this number of equal pieces.
 fn inputs(
     alloc: Global,
     clients: usize,
@@ -195,8 +195,8 @@ fn three_clients_count(rt: HostRuntime) -> Result<(), Fail> {
     Ok(())
 }
 
-/// A run of one client over a ring, whose servers wait for each other. Each takes its first request, and `quit`. It says what was
-/// answered, and how often one server missed another.
+/// A run of one client over a ring, whose servers wait for each other. Each takes its first request, and `quit`. It returns whether the
+/// answer is this one, and how often one server missed another.
 fn met<R: Threads + Wait + Time + Sync>(
     rt: &R,
     alloc: Global,
@@ -215,8 +215,8 @@ fn met<R: Threads + Wait + Time + Sync>(
     Ok((is_well, gate.missed.load(Ordering::SeqCst)))
 }
 
-/// Each server waits for each other one to take its first request: workers that run one after another, on one thread or on fewer
-/// than there are servers, miss each other, and threads that always refuse do not come so far.
+/// Each server waits for each other one to take its first request. If workers run in sequence, on one thread or on fewer than there are
+/// servers, they miss each other; if threads always refuse, they do not get so far.
 #[test]
 fn servers_meet(rt: HostRuntime) -> Result<(), Fail> {
     let alloc = rt.alloc();
@@ -233,7 +233,7 @@ fn servers_meet(rt: HostRuntime) -> Result<(), Fail> {
     Ok(())
 }
 
-/// Why a run over two servers gives up, where so many clients ask for a key of each, the clocks give these moments, and there is this gate.
+/// The error of a run over two servers, in which this number of clients ask for a key of each, with these moments and this gate.
 fn refused<G: Gate + Sync, R: Threads + Wait + Time + Sync>(
     rt: &R,
     alloc: Global,
@@ -265,8 +265,8 @@ fn runs_that_give_up(rt: HostRuntime) -> Result<(), Fail> {
     Ok(())
 }
 
-/// Two threads fail: the first server's clock gives no moment, and to the second the gate stays shut. Whichever ends first, the least
-/// number is answered, and no memory comes last.
+/// Two threads fail: the first server's clock gives no moment, and to the second the gate stays shut. Whichever ends first, the error of
+/// the least number is returned, with refused memory last.
 #[test]
 fn the_least_cause_is_answered(rt: HostRuntime) -> Result<(), Fail> {
     let moments = [None, Some(100)];

@@ -1,6 +1,6 @@
-//! Worlds whose links are lost and come back: they play pool scripts, line by line.
+//! Worlds whose links are lost and come up again: they play pool scripts, line by line.
 //!
-//! A call that is refused memory is made again. So a script ends as with ample memory, or as where one store was refused, whichever
+//! A call that is refused memory is made again. So a script ends as with ample memory, or as with one store refused, whichever
 //! allocation is refused: `tests/gate/refused.py` refuses each of them in turn.
 ghost use Rattle.std.specs.Prelude.{◌<◌, ◌^◌};
 ghost use Rattle.mc_pool_script.specs.PoolLines.{HasMoment};
@@ -14,15 +14,15 @@ use mc_world::{Event, Step, World, WorldError};
 use std::alloc::Global;
 use std::test::Fail;
 
-/// A script of one client, and what may have been put out to it at the end: with ample memory, or where one store was refused.
+/// A script of one client, and the bytes that may have been emitted to it at the end: with ample memory, or with one store refused.
 struct Script {
     text: &'static [u8],
     outputs: &'static [&'static [u8]],
 }
 
 const SCRIPTS: [Script; 5] = [
-    // a command that never arrives, one that is served though its reply is lost, one that is served late, and one that comes after
-    // the end of its generation and is dropped
+    // a command that never arrives, one that is served though its reply is lost, one that is served late, and one that arrives
+    // after the end of its generation and is dropped
     Script {
         text: b"pool 1 1 67108864 1000
 bytes 0 set n 0 0 1\\r\\n1\\r\\n
@@ -96,7 +96,7 @@ drain 102
             b"STORED\r\n10\r\nSERVER_ERROR link lost\r\nVALUE n 0 2\r\n10\r\nEND\r\n",
         ],
     },
-    // two servers: the first one's replies come first, and the second one owns what was asked first
+    // two servers: the first one's replies arrive first, and the second one owns the key that was asked for first
     Script {
         text: b"pool 2 1 67108864 1000
 point 98500190 0
@@ -216,7 +216,7 @@ fn put_out(world: &World<ListStore>) -> Result<Vec<u8>, WorldError> {
     again!(world.put_out(0))
 }
 
-/// One line.
+/// Plays one line.
 fn play(world: &mut World<ListStore>, line: &PoolLine) -> Result<(), Fail>
     requires { HasMoment line.now (2 ^ 63) }
 {
@@ -231,7 +231,7 @@ fn play(world: &mut World<ListStore>, line: &PoolLine) -> Result<(), Fail>
     Ok(())
 }
 
-/// All that was put out to the client of a script.
+/// All bytes that were emitted to the client of a script.
 fn told(alloc: Global, script: &PoolScript) -> Result<Vec<u8>, Fail> {
     let mut world = opened(alloc, script)?;
     for line in script.lines() {

@@ -1,4 +1,5 @@
--- Counts that make no item: what the first in a run says, and of two the second, with none between that may have written.
+-- Counts that make no item: what the first one in a run shows, and what the second of two shows if no command between
+-- them may have written.
 use Rattle.std.proofs.Common.{◌≡◌, ◌∙◌, ℕ, ◌<◌, ◌^◌, ◌||◌, ◌&&◌, nat_lt, inl, inr, Bool, true, false, cond, List, [], ◌∷◌, ◌++◌, Option, Some, None, Ok, Err, refl, sym, ap, subst, ltb-true, append_assoc}
 use Rattle.std.specs.Option.{option_map_or}
 use Rattle.std.specs.Str.Parse.{digits_value}
@@ -78,7 +79,7 @@ count-small front back e last held key counting number run counts makes is =
     let found = turn-finds r.0 r.1 part.1 e key counting number r.3 counts makes is in
     found.small
 
--- nothing is held at first: before such a count a command may have written
+-- nothing is stored at first: before such a count a command may have written
 none-found : (gone : Bool) (held : Option Body) (body : Body) → IsLeft None held → cond gone None held ≡ Some body → ⊥
 none-found true held body left is = absurd cc
 none-found false held body left is = subst (λ (h : Option Body). IsLeft None h) is left
@@ -91,7 +92,7 @@ quiet-counts-none front back e last key counting number run quiet counts makes i
     let found = turn-finds r.0 r.1 rest.1 e key counting number r.3 counts makes is in
     none-found (r.0 || is_dead_at rest.1 e.moment) rest.1 found.body rest.2 found.is
 
--- the second of two goes on from the first
+-- the second of two counts goes on from the first
 counts-last : (between : List Done) (last : Done) (key : List ℕ) (counting : Counting) → AreQuiet between → last.atom ≡ atoms.Update (Count key counting) → counting.create ≡ None
     → AreCountsOrQuiet (between ++ last ∷ [])
 counts-last [] last key counting quiet counts makes = (inr (key, counting, ap (λ (a : Atom (List ℕ)). update_in a) counts, makes), tt)

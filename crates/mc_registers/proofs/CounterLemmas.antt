@@ -33,7 +33,7 @@ use Rattle.mc_registers.specs.Guarantees.{is_done, has_written, may_have_written
 use Rattle.mc_registers.proofs.LeftLemmas.{IsKept, IsLeft, IsUndone, compared-undone, number_body, told-done}
 use Rattle.mc_registers.proofs.GuaranteeLemmas.{quiet-left, quiet-unwritten, run-part, unwritten-turn}
 
--- what is held is a number, or nothing is; and what is held is one
+-- the stored item, if there is one, is this number; and there is one, and it is this number
 abbrev pub IsNumber : ℕ → Option Body → Type 0
 IsNumber number None = Unit {0}
 IsNumber number (Some body) = read_u64 body.value ≡ Some number
@@ -59,7 +59,7 @@ pub counted-small : (direction : Direction) (delta number : ℕ) → number < 2 
 counted-small Up delta number small = omega arith
 counted-small Down delta number small = omega arith
 
--- what has not written counts nothing
+-- a command that has not written counts nothing
 unwritten-counted : (number : ℕ) (atom : Atom (List ℕ)) (reply : Reply (List ℕ)) → has_written atom reply ≡ false → IsCounted number atom reply × (number_by number atom reply ≡ number)
 unwritten-counted number (atoms.Get key touch with_cas) reply none = (tt, refl)
 unwritten-counted number (atoms.Update (Store mode compare key flags exptime value)) reply none = (tt, refl)
@@ -126,7 +126,7 @@ told-number-goes (Ok n) key body counting show moment flags expiry number small 
     record { counted_is = counted-shown number key counting show shown show.value; number_is = read_u64-decimal reached next; small = next }
 told-number-goes (Err fault) key body counting show moment flags expiry number small reads = record { counted_is = tt; number_is = reads; small = small }
 
--- what holds of a count of a number that is held, by what it does
+-- what holds of a count of a stored number, by what it does
 count-does : (Does : KeyOutcome → Type 0) (given : Given) (body : Body) (counting : Counting) (moment number : ℕ) → read_u64 body.value ≡ Some number
     → ((reply : Reply (List ℕ)) → is_done reply ≡ false → Does (Some body, reply))
     → ((flags : ℕ) (expiry : Deadline) → Does (number_as given (Some body) flags expiry (counted counting.direction counting.delta number)))
@@ -156,7 +156,7 @@ told-count-goes given body key counting show moment number small reads =
     (λ reply undone. unwritten-goes IsHeldNumber number atom (told show moment Plain (Some body) reply) (Some body) (told-done show moment Plain (Some body) reply ∙ undone) reads small)
     (λ flags expiry. told-number-goes given key body counting show moment flags expiry number small reads)
 
--- a command that counts, of a number that is held, and of nothing
+-- a command that counts, of a stored number, and of a missing key
 held-step-goes : (given : Given) (body : Body) (atom : Atom (List ℕ)) (key : List ℕ) (counting : Counting) (moment number : ℕ) → number < 2 ^ 64 → read_u64 body.value ≡ Some number
     → update_in atom ≡ Some (Count key counting) → let o : KeyOutcome = register_step given (Some body) atom moment in GoesOn IsHeldNumber number atom o.1 o.0
 held-step-goes given body (atoms.Get at touch with_cas) key counting moment number small reads counts = absurd cc
@@ -220,7 +220,7 @@ count-run (e ∷ es) back number last held small is counts run =
     let goes : GoesOn IsNumber number e.atom e.reply left = turn-goes run.0 run.1 held e number small is run.3 counts.0 in
     (goes.counted_is, count-run es back (number_by number e.atom e.reply) (last_by last left) left goes.small goes.number_is counts.1 run.4)
 
--- while the item is neither forgotten nor dead
+-- a turn while the item is neither forgotten nor dead
 steady-turn-goes : (given : Given) (body : Body) (e : Done) (number : ℕ) → number < 2 ^ 64 → read_u64 body.value ≡ Some number → is_dead_at (Some body) e.moment ≡ false
     → e.reply ≡ (turn false given (Some body) e).1 → IsCountOrUnwritten e → GoesOn IsHeldNumber number e.atom e.reply (turn false given (Some body) e).0
 steady-turn-goes given body e number small reads lives replies (inl none) =
@@ -263,7 +263,7 @@ told-number-put (Err fault) held flags expiry n number show moment small shows =
 told-number-put (Ok given) held flags expiry n number show moment small shows =
     shown-number (shown_of show moment Plain (record (number_body flags expiry n) { cas = given })) show.value n number small shows
 
--- a count, by how its reply is told
+-- a count, by how its reply is shown
 count-number : (tell : KeyOutcome → Reply (List ℕ)) (given : Given) (held : Option Body) (counting : Counting) (moment number : ℕ)
     → ((o : KeyOutcome) → is_done (tell o) ≡ is_done o.1)
     → ((held : Option Body) (flags : ℕ) (expiry : Deadline) (n : ℕ) → ShowsCount (tell (number_as given held flags expiry n)) number

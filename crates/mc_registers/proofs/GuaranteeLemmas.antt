@@ -25,7 +25,7 @@ use Rattle.mc_registers.specs.Registers.{Given, put_as, unless, store_as, get_as
 use Rattle.mc_registers.specs.Guarantees.{is_done, has_written, may_have_written, HaveNotWritten, AreQuiet, update_in, is_whole, IsSteadyRun, AddsExclude, number_needed, OldNumbersDoNotFit, CasLosesNothingAcross}
 use Rattle.mc_registers.proofs.LeftLemmas.{IsSame, IsKept, IsLeft, kept-left, left-same, left-both, left-found, IsFresh, IsUndone, compared-undone, unstored-undone, update-leaves, looked-same, told-done, step-leaves}
 
--- a turn leaves what was held, or none, or what is fresh
+-- a turn leaves the item that was stored, or none, or a fresh one
 pub turn-leaves : (forgotten : Bool) (given : Given) (held : Option Body) (e : Done) → e.reply ≡ (turn forgotten given held e).1
     → (IsLeft held (turn forgotten given held e).0 × (has_written e.atom e.reply ≡ false)) ⊎ (IsFresh given (turn forgotten given held e).0 × (may_have_written e.atom e.reply ≡ true))
 turn-leaves forgotten given held e is =
@@ -60,7 +60,7 @@ quiet-run (e ∷ between) last held es quiet run =
     let rest = quiet-run between (last_by last after) after es quiet.1 run.4 in
     (rest.0, rest.1, left-both held after rest.1 (quiet-left run.0 run.1 held e run.3 quiet.0) rest.2, rest.3)
 
--- a retrieval command that hits shows what is held, and leaves it
+-- a retrieval command that hits shows the stored item, and leaves it
 pub record ShowsHeld (held : Option Body) (flags : ℕ) (cas : Option ℕ) (value : List ℕ) (left : Option Body) : Type 0 where
   pub body : Body
   pub is : held ≡ Some body
@@ -95,7 +95,7 @@ hit-shows (Some body) touch false moment flags cas value is = record {
   same = refl;
 }
 
--- what is found is held
+-- an item that is found is stored
 pub found-held : (gone : Bool) (held : Option Body) (body : Body) → cond gone None held ≡ Some body → held ≡ Some body
 found-held true held body is = absurd cc
 found-held false held body is = is
@@ -138,7 +138,7 @@ store-stored given held compare mode new done = go (unstored compare mode held) 
     go None is (Err fault) done = absurd cc
     go None is (Ok number) done = record { number = number; unanswered = is; left_is = refl }
 
--- the same of each command that has such an update
+-- likewise for each command that has such an update
 pub update-stored : (given : Given) (held : Option Body) (atom : Atom (List ℕ)) (moment : ℕ) (mode : StoreMode) (compare : Option ℕ) (key : List ℕ) (flags : ℕ) (exptime : ℤ) (value : List ℕ)
     → update_in atom ≡ Some (Store mode compare key flags exptime value) → is_done (register_step given held atom moment).1 ≡ true
     → (new : Content) × (new.flags ≡ flags) × (new.value ≡ value) × HasStored held compare mode new (register_step given held atom moment).0
@@ -171,7 +171,7 @@ whole-content Replace (Some body) new whole = refl
 whole-content Append held new whole = absurd cc
 whole-content Prepend held new whole = absurd cc
 
--- what is left of an item that is there
+-- what is left of a stored item
 pub left-is-same : (before after : Body) (held left : Option Body) → held ≡ Some before → left ≡ Some after → IsLeft held left → IsSame before after
 left-is-same before after held left was is kept =
     subst (λ (h : Option Body). IsLeft h (Some after)) was (subst (λ (l : Option Body). IsLeft held l) is kept)
@@ -197,7 +197,7 @@ reads_see_own_writes last held front between back write read mode compare key fl
     let same : IsSame body shows.body = left-is-same body shows.body after rest.1 has.left_is shows.is rest.2 in
     (shows.flags_are ∙ same.flags ∙ ap (λ (c : Content). c.flags) content ∙ stored.1, shows.value_is ∙ same.value ∙ ap (λ (c : Content). c.value) content ∙ stored.2)
 
--- no `add` stores where something is held
+-- no `add` stores if an item is stored
 add-answered : (compare : Option ℕ) (body : Body) → unstored compare Add (Some body) ≡ None → ⊥
 add-answered compare body is = go (compared compare (Some body)) is
   where
@@ -249,7 +249,7 @@ adds-run (e ∷ between) last body add compare key flags exptime value run none 
 pub unwritten_excludes : (last : ℕ) (body : Body) → AddsExclude last body
 unwritten_excludes last body between add compare key flags exptime value run none adds = adds-run between last body add compare key flags exptime value run none adds
 
--- what may not have written has not
+-- a command that may not have written has not
 pub quiet-unwritten : (atom : Atom (List ℕ)) (reply : Reply (List ℕ)) → may_have_written atom reply ≡ false → has_written atom reply ≡ false
 quiet-unwritten (atoms.Get key touch with_cas) reply quiet = refl
 quiet-unwritten (atoms.Update update) reply quiet = quiet
@@ -305,7 +305,7 @@ past-run (e ∷ between) number last held es past run =
 abbrev pub IsNumbered : ℕ → Option Body → Type 0
 IsNumbered number held = (body : Body) × (held ≡ Some body) × (body.cas ≡ number)
 
--- what compares a number, and gets no answer by that, finds it
+-- an update that compares a number, and gets no answer by that, finds it
 compared-found : (number : ℕ) (held : Option Body) → compared (Some number) held ≡ None → IsNumbered number held
 compared-found number None is = absurd cc
 compared-found number (Some body) is =
@@ -331,7 +331,7 @@ count-needs : (create : Option Creation) (compare : Option ℕ) (number : ℕ) �
 count-needs None compare number is = (refl, is)
 count-needs (Some creation) compare number is = absurd cc
 
--- an update that needs a number is done only where an item has it
+-- an update that needs a number is done only if an item has it
 update-needs : (given : Given) (held : Option Body) (update : Update (List ℕ) (List ℕ)) (moment number : ℕ) → number_needed update ≡ Some number
     → is_done (update_as given held update moment).1 ≡ true → IsNumbered number held
 update-needs given held (Store mode compare key flags exptime value) moment number needs done =
@@ -356,7 +356,7 @@ update-needs given (Some body) (Count key counting) moment number needs done =
     (done-unanswered (Some body) (compared counting.compare (Some body)) o (compared-undone counting.compare (Some body)) done)
 update-needs given held (FlushAll delay) moment number needs done = absurd cc
 
--- the same of each command that has such an update
+-- likewise for each command that has such an update
 step-needs : (given : Given) (held : Option Body) (atom : Atom (List ℕ)) (moment : ℕ) (update : Update (List ℕ) (List ℕ)) (number : ℕ) → update_in atom ≡ Some update
     → number_needed update ≡ Some number → is_done (register_step given held atom moment).1 ≡ true → IsNumbered number held
 step-needs given held (atoms.Get at touch with_cas) moment update number is needs done = absurd cc
@@ -389,7 +389,7 @@ pub cas-past : (between back : List Done) (number last : ℕ) (held : Option Bod
 cas-past between back number last held cas mode key flags exptime value past run compares done =
     needed-past between back number last held cas (Store mode (Some number) key flags exptime value) past run compares refl done
 
--- the item that is held has the number, which is the last that was given
+-- the stored item has the number, which is the last that was given
 abbrev pub IsAt : ℕ → ℕ → Option Body → Type 0
 IsAt number last None = ⊥
 IsAt number last (Some body) = (body.cas ≡ number) × (last ≡ number)

@@ -1,4 +1,4 @@
--- What a hit says of the run before it, and what a store is answered.
+-- What follows from a hit for the run before it, and how a store is answered.
 use Rattle.std.proofs.Common.{◌≡◌, ◌∙◌, ⊎_elim, ℕ, ◌≤◌, ◌||◌, ◌==◌, ℤ, inl, inr, ◌⊎◌, Bool, true, false, cond, List, [], ◌∷◌, ◌++◌, Option, Some, None, Ok, Err, refl, sym, subst, arith}
 use Rattle.std.specs.Option.{option_or}
 use Rattle.std.proofs.lemmas.Bool.{cases_lt}
@@ -25,7 +25,7 @@ use Rattle.mc_registers.specs.Guarantees.{AreQuiet, IsSteadyRun, is_done, update
 use Rattle.mc_registers.proofs.LeftLemmas.{IsLeft, told-done}
 use Rattle.mc_registers.proofs.GuaranteeLemmas.{IsPast, cas-past, quiet-run, read-shows, run-part}
 
--- nothing is held at first: before a hit a command may have written
+-- nothing is stored at first: before a hit a command may have written
 pub quiet-misses : (front back : List Done) (read : Done) (last : ℕ) (key : List ℕ) (touch : Option ℤ) (with_cas : Bool) (flags : ℕ) (cas : Option ℕ) (value : List ℕ)
     → IsRun last None (front ++ read ∷ back) → AreQuiet front → read.atom ≡ atoms.Get key touch with_cas → read.reply ≡ Hit flags cas value → ⊥
 quiet-misses front back read last key touch with_cas flags cas value run quiet reads hits =
@@ -34,7 +34,7 @@ quiet-misses front back read last key touch with_cas flags cas value run quiet r
     let shows = read-shows r.0 r.1 rest.1 read key touch with_cas flags cas value r.3 reads hits in
     subst (λ (held : Option Body). IsLeft None held) shows.is rest.2
 
--- a number that a hit showed is past, where a later command compares a lower one: so that command does not store
+-- a number that a hit showed is past, if a later command compares a lower one: so that command does not store
 pub shown-fits : (front between back : List Done) (read cas : Done) (last n number : ℕ) (held : Option Body) (at : List ℕ) (touch : Option ℤ) (with_cas : Bool) (shown_flags : ℕ)
     (shown : List ℕ) (mode : StoreMode) (key : List ℕ) (flags : ℕ) (exptime : ℤ) (value : List ℕ) → IsRun last held (front ++ read ∷ (between ++ cas ∷ back))
     → read.atom ≡ atoms.Get at touch with_cas → read.reply ≡ Hit shown_flags (Some n) shown
@@ -101,7 +101,7 @@ store-told given held compare mode new =
     go None refused (Ok number) = inl refl
     go None refused (Err fault) = inr refl
 
--- a meta command is told the same
+-- the reply to a meta command says so too
 told-refused : (show : Show) (moment : ℕ) (marks : Marks) (held : Option Body) (reply : Reply (List ℕ)) → is_refused (told show moment marks held reply) ≡ is_refused reply
 told-refused show moment marks None Stored = refl
 told-refused show moment marks (Some body) Stored = refl

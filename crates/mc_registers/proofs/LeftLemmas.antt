@@ -1,4 +1,5 @@
--- What a command on the key leaves of what was held: the same item, none, or one under the number that it was given.
+-- What a command on the key leaves of the stored item: the same item, none, or one under the number that it was
+-- given.
 use Rattle.std.proofs.Common.{◌≡◌, ◌∙◌, ℕ, ◌&&◌, ◌||◌, ◌==◌, ℤ, inl, inr, ◌⊎◌, Bool, true, false, cond, List, Option, Some, None, Ok, Err, refl, sym, ap, subst}
 use Rattle.std.specs.Fmt.{decimal}
 use Rattle.std.specs.Option.{option_map_or, option_or, is_some}
@@ -28,7 +29,7 @@ use Rattle.mc_cache_laws.specs.OneMap.{KeyOutcome, touch_key, told_key}
 use Rattle.mc_registers.specs.Registers.{Given, put_as, unless, delete_as, number_as, count_as, update_as, register_step}
 use Rattle.mc_registers.specs.Guarantees.{is_done, has_written, may_have_written}
 
--- the item is as it was, but for its expiry; and a client may have been told to fill it
+-- the item is as it was, except its expiry; and a client may have been asked to fill it
 pub record IsSame (before after : Body) : Type 0 where
   pub flags : after.flags ≡ before.flags
   pub cas : after.cas ≡ before.cas
@@ -45,7 +46,7 @@ kept-same : (held : Option Body) → IsKept held held
 kept-same None = tt
 kept-same (Some body) = record { flags = refl; cas = refl; value = refl; won = λ won. won }
 
--- or it is there no more
+-- the item is as it was, or is gone
 abbrev pub IsLeft : Option Body → Option Body → Type 0
 IsLeft before None = Unit {0}
 IsLeft None (Some after) = ⊥
@@ -76,12 +77,12 @@ pub left-found : (gone : Bool) (held : Option Body) → IsLeft held (cond gone N
 left-found true held = tt
 left-found false held = left-same held
 
--- what is held has the number that was given
+-- the stored item has the number that was given
 abbrev pub IsFresh : Given → Option Body → Type 0
 IsFresh given None = Unit {0}
 IsFresh given (Some body) = given ≡ Ok body.cas
 
--- an update that was not done leaves what was held; one that was done leaves none, or what is fresh
+-- an update that was not done leaves the stored item; one that was done leaves none, or a fresh one
 abbrev pub Leaves : Given → Option Body → KeyOutcome → Type 0
 Leaves given held o = (IsKept held o.0 × (is_done o.1 ≡ false)) ⊎ (IsFresh given o.0 × (is_done o.1 ≡ true))
 
@@ -92,7 +93,7 @@ put-leaves : (given : Given) (held : Option Body) (body : Body) (reply : Reply (
 put-leaves (Ok number) held body reply done = inr (refl, done)
 put-leaves (Err fault) held body reply done = stays (Err fault) held (Fault fault) refl
 
--- what conditions answer was not done
+-- an update that its conditions answer was not done
 abbrev pub IsUndone : Option (Reply (List ℕ)) → Type 0
 IsUndone None = Unit {0}
 IsUndone (Some reply) = is_done reply ≡ false
@@ -126,7 +127,7 @@ unless-leaves : (given : Given) (held : Option Body) (answer : Option (Reply (Li
 unless-leaves given held None o undone leaves = leaves
 unless-leaves given held (Some reply) o undone leaves = stays given held reply undone
 
--- each command
+-- what each command leaves
 delete-leaves : (given : Given) (held : Option Body) (compare : Option ℕ) (invalidate : Bool) → Leaves given held (delete_as given held compare invalidate)
 delete-leaves given None compare invalidate = stays given None NotFound refl
 delete-leaves given (Some body) compare true =
@@ -173,7 +174,7 @@ update-leaves given held (Delete key compare invalidate) moment = delete-leaves 
 update-leaves given held (Count key counting) moment = count-leaves given held counting moment
 update-leaves given held (FlushAll delay) moment = stays given held Flushed refl
 
--- a reply that is told to a meta command was done where it was
+-- the reply to a meta command says that it was done if its update was
 pub told-done : (show : Show) (moment : ℕ) (marks : Marks) (held : Option Body) (reply : Reply (List ℕ)) → is_done (told show moment marks held reply) ≡ is_done reply
 told-done show moment marks None Stored = refl
 told-done show moment marks (Some body) Stored = refl
@@ -190,7 +191,7 @@ told-done show moment marks held (Hit flags cas value) = refl
 told-done show moment marks held (Meta shown value) = refl
 told-done show moment marks held (Fault fault) = refl
 
--- the same of each command, as its client knows
+-- what each command leaves, as its client knows
 abbrev pub LeavesBy : Given → Option Body → Atom (List ℕ) → KeyOutcome → Type 0
 LeavesBy given held atom o = (IsKept held o.0 × (has_written atom o.1 ≡ false)) ⊎ (IsFresh given o.0 × (may_have_written atom o.1 ≡ true))
 

@@ -44,7 +44,7 @@ line-hides (Hit flags cas value) line = absurd cc
 line-hides (Meta shown value) line = absurd cc
 line-hides reply line = refl
 
--- an update is answered by one
+-- an update is answered by such a reply
 put-line : (given : Given) (held : Option Body) (body : Body) (reply : Reply (List ℕ)) → is_line reply ≡ true → is_line (put_as given held body reply).1 ≡ true
 put-line (Ok number) held body reply line = line
 put-line (Err fault) held body reply line = refl
@@ -87,7 +87,7 @@ update-line given (Some body) (Count key counting) moment =
     (read_u64 body.value) (Some body, Fault NonNumeric)) (compared-refused counting.compare (Some body)) (count_held-line given body counting moment (read_u64 body.value))
 update-line given held (FlushAll delay) moment = refl
 
--- what is shown of an item is of the one that is left
+-- the part of an item that is shown belongs to the item that is left
 pub asked-same : {X : Type 0} (asked : Bool) (own shown : X) → then_some asked own ≡ Some shown → own ≡ shown
 asked-same true own shown shows = cc
 asked-same false own shown shows = absurd cc

@@ -1,4 +1,5 @@
--- A reply that shows a value, of a command that did not write: it is that of the item that is found.
+-- A command that did not write, and whose reply shows a value, shows the value of the item that it
+-- found.
 use Rattle.std.proofs.Common.{◌≡◌, ◌∙◌, ℕ, ◌&&◌, ◌||◌, ◌⊎◌, inl, inr, ℤ, Bool, true, false, cond, List, ◌∷◌, ◌++◌, Option, Some, None, Ok, Err, refl, sym, ap, subst}
 use Rattle.std.specs.Option.{option_map_or, is_some}
 use Rattle.std.proofs.lemmas.Bool.{true≢false}
@@ -21,7 +22,7 @@ use Rattle.mc_registers.proofs.LeftLemmas.{IsSame}
 use Rattle.mc_registers.proofs.GuaranteeLemmas.{HasStored, update-stored, whole-content, left-is-same, found-held, quiet-run, run-part}
 use Rattle.mc_registers.proofs.NumberLemmas.{is_line, update-line, asked-same}
 
--- a reply shows nothing of an item, or what this one has
+-- a reply shows nothing of an item, or the fields of this one
 abbrev pub Hides : Reply (List ℕ) → Type 0
 Hides reply = (value_shown reply ≡ None) × (flags_shown reply ≡ None)
 
@@ -40,7 +41,7 @@ line-hides-all reply line = (refl, refl)
 item-shows-of : (show : Show) (moment : ℕ) (marks : Marks) (body : Body) → ShowsOf body (item_shown show moment marks (Some body))
 item-shows-of show moment marks body = (λ shown shows. asked-same show.value body.value shown shows, λ shown shows. asked-same show.flags body.flags shown shows)
 
--- an update that was not done is told so
+-- the reply to a meta command shows nothing if its update was not done
 told-hides : (show : Show) (moment : ℕ) (marks : Marks) (held : Option Body) (reply : Reply (List ℕ)) → is_line reply ≡ true → is_done (told show moment marks held reply) ≡ false
     → Hides (told show moment marks held reply)
 told-hides show moment marks None Stored line undone = absurd cc
@@ -78,7 +79,7 @@ quiet-shows given held (atoms.Meta (metas.Update update show)) moment quiet =
     let o : KeyOutcome = update_as given held update moment in
     inl (told-hides show moment Plain o.0 o.1 (update-line given held update moment) quiet)
 
--- so it shows what this body has, if that is what is found
+-- it shows the fields of this body, if that is the one that is found
 shows-own : (found : Option Body) (own : Body) (reply : Reply (List ℕ)) → ((body : Body) → found ≡ Some body → IsSame own body) → ShowsFound found reply → ShowsOf own reply
 shows-own found own reply same (inl hides) = (
   λ shown shows. absurd (let none : ◌≡◌ {A = Option (List ℕ)} None (Some shown) = sym hides.0 ∙ shows in cc),

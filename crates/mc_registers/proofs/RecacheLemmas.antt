@@ -19,7 +19,7 @@ use Rattle.mc_registers.specs.Recache.{is_win, has_won, wins, RecacheHasOneWinne
 use Rattle.mc_registers.proofs.LeftLemmas.{IsKept, IsLeft, kept-left, told-done, update-leaves}
 use Rattle.mc_registers.proofs.GuaranteeLemmas.{held-kept, run-part}
 
--- a client was told to fill what is held: it is held, or nothing is
+-- the stored item was won; and likewise, if there is one
 abbrev pub IsHeldWon : Option Body → Type 0
 IsHeldWon None = ⊥
 IsHeldWon (Some body) = body.won ≡ true
@@ -41,7 +41,7 @@ won-found : (gone : Bool) (held : Option Body) → IsWon held → IsWon (cond go
 won-found true held won = tt
 won-found false held won = won
 
--- marks of an item that was won, and of one that is
+-- the marks of an item that was won, and of one that is won now
 won-marks : (stale won needs : Bool) → won ≡ true → is_win (marks_by stale won needs) ≡ false
 won-marks true true needs is = refl
 won-marks false true needs is = refl
@@ -54,7 +54,7 @@ win-marks true false false is = absurd cc
 win-marks false false true is = refl
 win-marks false false false is = absurd cc
 
--- a client that is told to fill an item leaves one of which that was told
+-- a client that is asked to fill an item leaves one that is marked as won
 win-leaves : (given : Given) (held : Option Body) (atom : Atom (List ℕ)) (moment : ℕ) → has_won atom (register_step given held atom moment).1 ≡ true
     → IsHeldWon (register_step given held atom moment).0
 win-leaves given held (atoms.Get key touch with_cas) moment won = absurd cc
@@ -70,14 +70,14 @@ win-leaves given None (atoms.Meta (metas.Get key get)) moment won = go get.creat
 win-leaves given (Some body) (atoms.Meta (metas.Get key get)) moment won = win-marks body.stale body.won (needs_filling get.recache moment body) won
 win-leaves given held (atoms.Meta (metas.Update update show)) moment won = absurd cc
 
--- and no other client is told so of it
+-- no other client is asked to fill it
 won-shows : (given : Given) (body : Body) (atom : Atom (List ℕ)) (moment : ℕ) → body.won ≡ true → has_won atom (register_step given (Some body) atom moment).1 ≡ false
 won-shows given body (atoms.Get key touch with_cas) moment won = refl
 won-shows given body (atoms.Update update) moment won = refl
 won-shows given body (atoms.Meta (metas.Get key get)) moment won = won-marks body.stale body.won (needs_filling get.recache moment body) won
 won-shows given body (atoms.Meta (metas.Update update show)) moment won = refl
 
--- once it is won, no client is told so while it stays
+-- once the item is won, no client is asked while it stays
 steady-won : (es : List Done) (last : ℕ) (held : Option Body) → IsHeldWon held → IsSteadyRun last held es → HaveNotWritten es → wins es ≡ 0
 steady-won es last None won run none = absurd won
 steady-won [] last (Some body) won run none = refl
@@ -146,7 +146,7 @@ unwritten-run (e ∷ between) last held es won none run =
     (subst (λ (r : Reply (List ℕ)). has_written e.atom r ≡ false) run.3 none.0) in
     unwritten-run between (last_by last left) left es still none.1 run.4
 
--- a second client is told so only by an `mg` that makes an item
+-- a second client is asked only by an `mg` that makes an item
 second-made : (given : Given) (held : Option Body) (atom : Atom (List ℕ)) (moment : ℕ) → IsWon held → has_won atom (register_step given held atom moment).1 ≡ true
     → may_have_written atom (register_step given held atom moment).1 ≡ true
 second-made given held (atoms.Get key touch with_cas) moment won again = absurd cc
@@ -178,7 +178,7 @@ each_win_is_marked last held front between back first second run wins_first wins
     subst (λ (x : Reply (List ℕ)). may_have_written second.atom x ≡ true) (sym q.3)
     (second-made q.1 (cond gone None rest.1) second.atom second.moment (won-found gone rest.1 rest.2) again)
 
--- and so is the first, where nothing was held at first
+-- likewise for the first, if nothing was stored at first
 pub first_win_is_marked : (last : ℕ) (front back : List Done) (first : Done) → IsRun last None (front ++ first ∷ back) → has_won first.atom first.reply ≡ true → HaveNotWritten front
     → may_have_written first.atom first.reply ≡ true
 first_win_is_marked last front back first run wins none =

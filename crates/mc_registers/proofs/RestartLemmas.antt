@@ -1,4 +1,5 @@
--- A cache gives at most one number a command. So no number that it showed fits a cache that begins above as many.
+-- A cache gives at most one number for each command. So no number that it showed fits a cache whose numbers begin
+-- above it by the number of commands.
 use Rattle.std.proofs.Common.{◌≡◌, ◌∙◌, ℕ, ◌+◌, ◌≤◌, ◌==◌, ◌||◌, ℤ, pos, negsuc, Bool, false, cond, List, [], ◌∷◌, ◌++◌, length, Option, Some, None, refl, sym, ap, arith, subst}
 use Rattle.std.specs.Option.{option_map_or}
 use Rattle.std.specs.Str.{bytes_eq}
@@ -48,7 +49,7 @@ flush-counter s (atoms.Meta (metas.Update (Delete at compare invalidate) show)) 
 flush-counter s (atoms.Meta (metas.Update (Count at counting) show)) moment refused none = absurd cc
 flush-counter s (atoms.Meta (metas.Update (FlushAll delay) show)) moment refused none = flush_step-counter (flushed s moment) delay moment ∙ flushed-counter s moment
 
--- a command gives at most one
+-- a command gives at most one number
 keyed-next : (s : CacheState) (own key : List ℕ) (last : ℕ) (held : Option Body) (command : Command) → atom_key command.atom ≡ Some own → Knows s key last held
     → (command_step s command).0.counter ≤ s.counter + 1
 keyed-next s own key last held command is knows =

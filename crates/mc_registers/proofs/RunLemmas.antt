@@ -1,4 +1,4 @@
--- What a cache executes of the commands on one key is a run of the register.
+-- The commands on one key that a cache executes are a run of the register.
 use Rattle.std.proofs.Common.{◌≡◌, ◌∙◌, ℕ, ◌≤◌, ◌==◌, ◌||◌, ℤ, pos, negsuc, inl, inr, ◌⊎◌, Bool, true, false, cond, List, [], ◌∷◌, Option, Some, None, Ok, Err, refl, sym, ap, arith, subst}
 use Rattle.std.specs.Option.{option_map_or}
 use Rattle.std.specs.Str.{bytes_eq}
@@ -24,18 +24,18 @@ use Rattle.mc_registers.specs.Registers.{Given, Done, register_step, turn, may_g
 use Rattle.mc_registers.specs.Laws.{done_by, done_on}
 use Rattle.mc_registers.proofs.TurnLemmas.{Turns, IsGood, settled_step-turns}
 
--- what is under a key is what was, or is gone
+-- the item under a key is the one before, or is gone
 abbrev pub IsKnown : List ℕ → Option Body → Items → Type 0
 IsKnown key held items = (body_at key items ≡ held) ⊎ (body_at key items ≡ None)
 
--- a cache where a register of a key holds this, and gave that number last
+-- a cache whose register of a key holds this item, and which gave that number last
 pub record Knows (s : CacheState) (key : List ℕ) (last : ℕ) (held : Option Body) : Type 0 where
   pub within : IsHeldWithin s.budget s.limit s.items
   pub known : IsKnown key held s.items
   pub given : last ≤ s.counter
   pub number : last_by last held ≤ s.counter
 
--- a flush
+-- a flush keeps the bounds
 held-none : (budget limit : ℕ) → IsWithinBounds budget limit → IsHeldWithin budget limit []
 held-none budget limit bounds = record { bounds = bounds; affordable = omega arith; few = omega arith; distinct = λ key. refl }
 
@@ -84,7 +84,7 @@ alive-good s key moment good =
     cond_both (is_dead_at (body_at key s.items) moment) (without key s.items) s.items (λ (items : Items). IsHeldWithin s.budget s.limit items)
     (λ dead. held-without s.budget s.limit s.items (without key s.items) key refl good) (λ lives. good)
 
--- a register finds the same, whether it had forgotten the item or not
+-- a register finds this item, whether it had forgotten it or not
 abbrev pub Finds : List ℕ → ℕ → Option Body → Items → Type 0
 Finds key moment held items = (forgotten : Bool) × (body_at key items ≡ cond (forgotten || is_dead_at held moment) None held)
 
@@ -99,7 +99,7 @@ alive-finds s key moment held known good =
     cond_both (is_dead_at (body_at key s.items) moment) (without key s.items) s.items (Finds key moment held)
     (λ dead. (true, good.distinct key)) (λ lives. lives-finds key moment held s.items known lives)
 
--- numbers
+-- numbers that may be given
 may-less : (low high : ℕ) (given : Given) → low ≤ high → may_give high given ≡ true → may_give low given ≡ true
 may-less low high (Ok number) less may = grind (arith, nat_tests)
 may-less low high (Err fault) less may = may

@@ -1,4 +1,4 @@
--- A server's legal history in a pool is what its cache executes.
+-- A server's legal history in a pool records what its cache executes.
 use Rattle.std.proofs.Common.{◌≡◌, ℕ, cond, List, [], ◌∷◌, None, refl, sym, ap, subst}
 use Rattle.mc_cache.specs.CacheState.{CacheState}
 use Rattle.mc_cache.specs.Replay.{Command, command_step}
@@ -20,7 +20,7 @@ on_key-all key s [] = refl
 on_key-all key s (command ∷ commands) =
     ap (λ (es : List Done). cond (is_on key command.atom) (done_by s command ∷ es) es) (on_key-all key (command_step s command).0 commands)
 
--- a legal history is told by such
+-- a legal history records such commands
 told-all : (order : Order) (place : ℕ) (history : List Entry) (s : CacheState) → IsLegal order place s history
     → (commands : List Command) × TellEach order place history (done_all s commands)
 told-all order place [] s legal = ([], tt)

@@ -1,4 +1,4 @@
--- What a command on a key does to a cache, the register does.
+-- What a command on a key does to a cache, it does to the register.
 use Rattle.std.proofs.Common.{◌≡◌, ◌∙◌, ℕ, ◌+◌, ◌^◌, ◌≤◌, nat_lt, nat_le, ℤ, Bool, true, false, List, ◌∷◌, length, Option, Some, None, Ok, Err, refl, sym, ap, arith, subst}
 use Rattle.std.specs.Prelude.{if◌then◌else◌}
 use Rattle.std.proofs.lemmas.Bool.{cond_both}
@@ -36,7 +36,7 @@ use Rattle.mc_cache_laws.proofs.OutcomeLemmas.{EndsStored, IsAdmitted, with_cont
 use Rattle.mc_cache_laws.proofs.ShownLemmas.{first_item}
 use Rattle.mc_registers.specs.Registers.{Given, put_as, unless, store_as, get_as, delete_as, number_as, count_as, meta_get_as, update_as, register_step, may_give, last_by}
 
--- an outcome is that of a register that is given something which a cache may give
+-- an outcome is that of a register that is given a number, or a refusal, which a cache may give
 pub record Turns (s : CacheState) (key : List ℕ) (expected : Given → KeyOutcome) (o : Outcome) : Type 0 where
   pub given : Given
   pub may : may_give s.counter given ≡ true
@@ -54,7 +54,7 @@ IsGood s = IsHeldWithin s.budget s.limit s.items
 next_may : (n : ℕ) → nat_lt n (n + 1) ≡ true
 next_may n = grind (arith, nat_tests)
 
--- nothing is done
+-- nothing changes
 same-turns : (s : CacheState) (key : List ℕ) (expected : Given → KeyOutcome) (given : Given) (reply : Reply (List ℕ)) → IsGood s → may_give s.counter given ≡ true
     → expected given ≡ (body_at key s.items, reply) → Turns s key expected (s, reply)
 same-turns s key expected given reply good may is = record {
@@ -81,7 +81,7 @@ fronted-turns s key expected reply good is = record {
   within = held-brought s.budget s.limit s.items (brought key (body_at key s.items) s.items) key refl good;
 }
 
--- a held body is changed, and its value is no longer
+-- a stored body is changed, and its value is no longer
 put-turns : (s : CacheState) (key : List ℕ) (expected : Given → KeyOutcome) (old new : Body) (counter : ℕ) (reply : Reply (List ℕ)) → IsGood s → body_at key s.items ≡ Some old
     → length new.value ≤ length old.value → s.counter ≤ counter → counter ≤ s.counter + 1 → (old.cas ≤ s.counter → new.cas ≤ counter)
     → expected (Ok (s.counter + 1)) ≡ (Some new, reply) → Turns s key expected (record s { items = brought key (Some new) s.items; counter = counter }, reply)
@@ -110,7 +110,7 @@ taken-turns s key expected reply good is = record {
   within = held-without s.budget s.limit s.items (without key s.items) key refl good;
 }
 
--- what is stored
+-- a content is stored
 content-turns : (s : CacheState) (key : List ℕ) (content : Content) (reply : Reply (List ℕ)) → IsGood s → IsAdmitted s key content
     → Turns s key (λ given. put_as given (body_at key s.items) (numbered content 0) reply) (with_content s key content, reply)
 content-turns s key content reply good admitted =
@@ -149,7 +149,7 @@ store-turns s compare mode key new refused good =
     (λ reply is. subst (λ a. Turns s key (by a) (fronted s key, reply)) (sym is) (fronted-turns s key (by (Some reply)) reply good refl))
     (λ is. subst (λ a. EndsStored (Turns s key (by a)) s key content Stored) (sym is) (content-ends s key content Stored good))
 
--- the others, by what is held
+-- the other commands, by the stored item
 get-turns : (s : CacheState) (key : List ℕ) (held : Option Body) (exptime : Option ℤ) (with_cas : Bool) (moment : ℕ) → body_at key s.items ≡ held → IsGood s
     → Turns s key (λ given. get_as held exptime with_cas moment) (get_step s key held exptime with_cas moment)
 get-turns s key None exptime with_cas moment is good =
@@ -241,7 +241,7 @@ update-turns s (Count at counting) moment refused key is good =
     (count-turns s at (body_at at s.items) counting moment refused refl good)
 update-turns s (FlushAll delay) moment refused key is good = absurd cc
 
--- a reply told to a meta command
+-- a reply as a meta command shows it
 told-turns : (s : CacheState) (key : List ℕ) (show : Show) (moment : ℕ) (marks : Marks) (expected : Given → KeyOutcome) (o : Outcome) → Turns s key expected o
     → Turns s key (λ given. told_key show moment marks (expected given)) (o.0, told show moment marks (body_at key o.0.items) o.1)
 told-turns s key show moment marks expected o turns = record {

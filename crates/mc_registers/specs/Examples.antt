@@ -17,7 +17,7 @@ use Rattle.mc_registers.specs.Registers.{Done, IsRun}
 abbrev pub the_key : List ℕ
 the_key = codes "k"
 
--- a command that was answered so, at moment 0 and at another
+-- a command that had this answer, at moment 0 and at another
 abbrev pub answered : Atom (List ℕ) → Reply (List ℕ) → Done
 answered atom reply = record { atom = atom; moment = 0; reply = reply }
 
@@ -48,7 +48,7 @@ abbrev pub making_counter : ℕ → Done
 making_counter initial =
     answered (ma_of (record (plain_counting Up 1) { create = Some (record { exptime = pos 0; initial = initial }) }) the_key (codes "")) (Meta nothing_shown None)
 
--- and one that compares a number before it counts, if there is an item
+-- `ma` that makes such a counter, and compares a number before it counts if there is an item
 abbrev pub making_counter_comparing : ℕ → Done
 making_counter_comparing number =
     answered (ma_of (record (plain_counting Up 1) { compare = Some number; create = Some (record { exptime = pos 0; initial = 1 }) }) the_key (codes "")) (Meta nothing_shown None)
@@ -74,14 +74,14 @@ recaching_at moment marks = answered_at moment (mg_recaching the_key 30 []) (Met
 abbrev pub making_shown : Done
 making_shown = answered (mg_making the_key (pos 0) (codes "v")) (Meta (marked Won) (Some []))
 
--- at a moment an item which dies 10 seconds later is made by `mg`, and by `add`
+-- at a moment `mg`, or `add`, makes an item which dies 10 seconds later
 abbrev pub making_at : ℕ → Done
 making_at moment = answered_at moment (mg_making the_key (pos 10) []) (Meta (marked Won) None)
 
 abbrev pub adding_at : ℕ → List ℕ → Done
 adding_at moment value = answered_at moment (store_of Add (pos 10) the_key value) Stored
 
--- a value that dies 20 seconds later is stored at a moment; and what is held is called stale
+-- a value that dies 20 seconds later is stored at a moment; and the stored item is called stale
 abbrev pub storing_at : ℕ → Done
 storing_at moment = answered_at moment (store_of Set (pos 20) the_key (codes "v")) Stored
 
@@ -95,7 +95,8 @@ a_hit value = Hit 0 None value
 abbrev pub a_numbered_hit : ℕ → List ℕ → Reply (List ℕ)
 a_numbered_hit number value = Hit 0 (Some number) value
 
--- a register that holds nothing yet, and has given no number, may have these commands and replies; and none may, whatever it forgets and gives
+-- an empty register that has given no number may have these commands and replies; and none may, whatever it forgets and whatever numbers it
+-- gives
 abbrev pub IsLife : List Done → Type 0
 IsLife history = IsRun 0 None history
 

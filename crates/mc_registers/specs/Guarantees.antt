@@ -1,4 +1,4 @@
--- What an application may rely on: runs of one key's register, in a client's words. This project's own.
+-- What an application may rely on: runs of one key's register, as a client sees them. This project's own.
 use Rattle.std.specs.Prelude.{◌≡◌, ℕ, ◌<◌, ◌≤◌, ◌^◌, ◌&&◌, ◌⊎◌, ℤ, Bool, true, false, List, [], ◌∷◌, ◌++◌, Option, Some, None, is_some, if◌then◌else◌}
 use Rattle.std.specs.Fmt.{decimal}
 use Rattle.mc_item.specs.declared.bodies.Body.{Body}
@@ -91,8 +91,8 @@ ReadsSeeOwnWrites last held =
     → may_have_written read.atom read.reply ≡ false
     → ((shown : List ℕ) → value_shown read.reply ≡ Some shown → shown ≡ value) × ((shown : ℕ) → flags_shown read.reply ≡ Some shown → shown ≡ flags)
 
--- Counters count, by `incr`, `decr` and `ma`. A client was shown a number, and since then are only counts that ask for no item to be made,
--- and what writes nothing: each goes on from the number before.
+-- Counters count, by `incr`, `decr` and `ma`. A client was shown a number. Since then there are only counts that ask for no item to be made, and
+-- commands that write nothing: each count goes on from the number before.
 abbrev pub IsCountOrQuiet : Done → Type 0
 IsCountOrQuiet e =
     (may_have_written e.atom e.reply ≡ false) ⊎ ((key : List ℕ) × (counting : Counting) × (update_in e.atom ≡ Some (Count key counting)) × (counting.create ≡ None))
@@ -128,7 +128,7 @@ CountersCount last held =
     (front es back : List Done) (first : Done) (key : List ℕ) (counting : Counting) (number : ℕ) → IsRun last held (front ++ first ∷ (es ++ back))
     → update_in first.atom ≡ Some (Count key counting) → ShowsCount first.reply number → number < 2 ^ 64 → AreCountsOrQuiet es → AreCounted number es
 
--- Adds exclude. Something is held, and is neither forgotten nor dead, and no command writes: then no `add` stores.
+-- Adds exclude. An item is stored, and is neither forgotten nor dead, and no command writes: then no `add` stores.
 abbrev pub IsSteadyRun : ℕ → Option Body → List Done → Type 0
 IsSteadyRun last held [] = Unit {0}
 IsSteadyRun last held (e ∷ es) =
@@ -141,7 +141,7 @@ AddsExclude last body =
     → IsSteadyRun last (Some body) (between ++ add ∷ []) → HaveNotWritten between
     → update_in add.atom ≡ Some (Store Add compare key flags exptime value) → is_done add.reply ≡ false
 
--- Counters count while their item stays. Here a count may ask for an item to be made, as `ma` with `N` does: none is made while one is held.
+-- Counters count while their item stays. Here a count may ask for an item to be made, as `ma` with `N` does: none is made while one is stored.
 abbrev pub IsCountOrUnwritten : Done → Type 0
 IsCountOrUnwritten e = (has_written e.atom e.reply ≡ false) ⊎ ((key : List ℕ) × (counting : Counting) × (update_in e.atom ≡ Some (Count key counting)))
 

@@ -12,11 +12,11 @@ use Rattle.mc_registers.specs.Registers.{Done}
 abbrev pub is_on : List ℕ → Atom (List ℕ) → Bool
 is_on key atom = option_map_or (λ own. bytes_eq own key) (atom_key atom) false
 
--- a command and what a cache answers it
+-- a command, and the reply that a cache gives it
 abbrev pub done_by : CacheState → Command → Done
 done_by s command = record { atom = command.atom; moment = command.moment; reply = (command_step s command).1 }
 
--- of the commands that a cache executes, those on a key, each with its reply
+-- the commands on a key that a cache executes, each with its reply
 abbrev pub done_on : List ℕ → CacheState → List Command → List Done
 done_on key s [] = []
 done_on key s (command ∷ commands) =

@@ -1,6 +1,6 @@
 -- One key as a register that may forget: its item, or none. A command does and answers what protocol.txt says of that one item. Before it
 -- the item may be forgotten, by an eviction or a flush, and a dead one is. There is no budget here, no order of use, no other key and no
--- flush. A server that starts anew begins a life: nothing is held, and its numbers begin anew. This project's own.
+-- flush. A server that restarts begins a life: nothing is stored, and its numbers begin anew. This project's own.
 use Rattle.std.specs.Prelude.{◌≡◌, ℕ, ◌||◌, nat_lt, ℤ, Bool, true, false, List, [], ◌∷◌, Option, Some, None, Result, Ok, Err, if◌then◌else◌}
 use Rattle.std.specs.Fmt.{decimal}
 use Rattle.std.specs.Option.{option_map_or}
@@ -27,16 +27,16 @@ use Rattle.mc_cache.specs.Showing.{item_shown, marks_of}
 use Rattle.mc_cache.specs.Step.{Content, numbered, compared, unstored, content_by, touched, expiry_by, counted, made_by, looked_at}
 use Rattle.mc_cache_laws.specs.OneMap.{KeyOutcome, touch_key, told_key}
 
--- what a store is given: the number that its item gets, or why it is refused
+-- the outcome of a store: the number that its item gets, or why it is refused
 abbrev pub Given : Type 0
 Given = Result ℕ faults.Fault
 
--- a body is held from here on, under the number that is given; where that is refused, what was held is held
+-- a body is stored from here on, under the number that is given; if that is refused, the item before stays
 abbrev pub put_as : Given → Option Body → Body → Reply (List ℕ) → KeyOutcome
 put_as (Ok number) held body reply = (Some (record body { cas = number }), reply)
 put_as (Err fault) held body reply = (held, Fault fault)
 
--- a command whose answer its conditions give changes nothing; another does this
+-- a command that its conditions answer changes nothing; any other does this
 abbrev pub unless : Option Body → Option (Reply (List ℕ)) → KeyOutcome → KeyOutcome
 unless held (Some reply) outcome = (held, reply)
 unless held None outcome = outcome
@@ -50,7 +50,7 @@ abbrev pub get_as : Option Body → Option ℤ → Bool → ℕ → KeyOutcome
 get_as None exptime with_cas moment = (None, Miss)
 get_as (Some body) exptime with_cas moment = (Some (touched exptime moment body), Hit body.flags (if with_cas then Some body.cas else None) body.value)
 
--- `delete` and `md`: what is held goes, or stays, stale, under a new number: source protocol.txt, "Deletion", "Meta Delete"
+-- `delete` and `md`: the item is removed, or stays, stale, under a new number: source protocol.txt, "Deletion", "Meta Delete"
 abbrev pub delete_as : Given → Option Body → Option ℕ → Bool → KeyOutcome
 delete_as given None compare invalidate = (None, NotFound)
 delete_as given (Some body) compare invalidate =
@@ -75,7 +75,7 @@ meta_get_as given None get moment =
     option_map_or (λ create. told_key get.show moment Won (put_as given None (numbered (made_by get.exptime create moment) 0) Stored)) get.create (None, Miss)
 meta_get_as given (Some body) get moment = (Some (looked_at get moment body), item_shown get.show moment (marks_of get.recache moment body) (Some (looked_at get moment body)))
 
--- a command on the key, by what is held: what is held after it, and the reply. A flush has no key
+-- a command on the key, by the stored item: the item after it, and the reply. A flush has no key
 abbrev pub update_as : Given → Option Body → Update (List ℕ) (List ℕ) → ℕ → KeyOutcome
 update_as given held (Store mode compare key flags exptime value) moment =
     store_as given held compare mode (record { flags = flags; expiry = deadline_of exptime moment; won = false; value = value })
@@ -96,22 +96,22 @@ pub record Done : Type 0 where
   pub moment : ℕ
   pub reply : Reply (List ℕ)
 
--- what it left: it found nothing where the item was forgotten before it, or was dead
+-- what it left: it found no item if that was forgotten before it, or was dead
 abbrev pub turn : Bool → Given → Option Body → Done → KeyOutcome
 turn forgotten given held e = register_step given (if forgotten || is_dead_at held e.moment then None else held) e.atom e.moment
 
--- a number is above the last that was given; a store is refused as too large, for want of numbers, or for want of memory
+-- a number is above the last that was given; a store is refused as too large, since no number is left, or since memory is missing
 abbrev pub may_give : ℕ → Given → Bool
 may_give last (Ok number) = nat_lt last number
 may_give last (Err fault) = is_store_fault fault
 
--- the last number that was given: an item that is held has it
+-- the last number that was given: a stored item has it
 abbrev pub last_by : ℕ → Option Body → ℕ
 last_by last None = last
 last_by last (Some body) = body.cas
 
--- commands on the key, in the order in which its server executed them, are a run of the register: each was answered what the register
--- answers, whether or not it had forgotten its item, and whatever it gave
+-- Commands on the key, in the order in which its server executed them, are a run of the register. Each was answered what the register
+-- answers, whether or not it had forgotten its item, and whatever numbers it gave.
 abbrev pub IsRun : ℕ → Option Body → List Done → Type 0
 IsRun last held [] = Unit {0}
 IsRun last held (e ∷ es) =

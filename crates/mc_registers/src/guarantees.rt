@@ -4,8 +4,8 @@ ghost use Rattle.mc_item.specs.declared.bodies.Body.{Body};
 ghost use Rattle.mc_registers.specs.Guarantees.{ReadsSeeOwnWrites, CountersCount, CountersCountWhileHeld, AddsExclude, CasLosesNothing, OldNumbersDoNotFit, CasLosesNothingAcross};
 ghost use Rattle.mc_registers.specs.Recache.{RecacheHasOneWinner, EachWinIsMarked};
 
-/// A client was told that its whole value is stored. No other command was told that it stored, counted or deleted since, and no `mg` with `N` was
-/// shown W. Then what a client is shown is that value: by a hit, or by any other `mg`. In the run `another_value_is_read` another command stored. In
+/// A client was answered that its whole value is stored. Since then no other command was answered that it stored, counted or deleted, and no `mg` with
+/// `N` was shown W. Then a client is shown that value: by a hit, or by any other `mg`. In the run `another_value_is_read` another command stored. In
 /// the runs `other_values_are_read` the value was joined to another or refused, or an `mg` made an item.
 pub fn reads_see_own_writes()
     ensures { (last : ℕ) → (held : Option Body) → ReadsSeeOwnWrites last held }
@@ -47,14 +47,14 @@ pub fn old_numbers_do_not_fit()
 
 /// A reply showed a number in one life, and the numbers of a later life begin above it. Then no update that needs it is done in the later life. So a
 /// `cas`, or an `ms`, `md` or `ma` with `C`, loses nothing across the two. It is `old_numbers_do_not_fit` for a number that a reply showed. In the runs
-/// `numbers_fit_another_life` both lives begin alike. This is a law of registers alone: in a `World` each life begins at one number.
+/// `numbers_fit_another_life` both lives begin at the same number. This is a law of registers alone: in a `World` each life begins at one number.
 pub fn cas_loses_nothing_across_lives()
     ensures { (first : ℕ) → (later : ℕ) → CasLosesNothingAcross first later }
 {}
 
-/// Between two commands that write, at most one `mg` shows W, if the item is neither forgotten nor dead (`one`). Whatever is forgotten, a
-/// second one shows it only if it asks for an item to be made, by `N` (`marked`). In the runs `marks_are_won_again` the item is forgotten, dead,
-/// called stale, or stored anew.
+/// Between two commands that write, at most one `mg` shows W, if the item is neither forgotten nor dead (`one`). Whatever is forgotten, a second one
+/// shows it only if it asks for an item to be made, by `N` (`marked`). In the runs `marks_are_won_again` the item is forgotten, dead, called stale, or
+/// stored anew.
 pub fn recache_has_one_winner()
     ensures one { (last : ℕ) → (held : Option Body) → RecacheHasOneWinner last held }
     ensures marked { (last : ℕ) → (held : Option Body) → EachWinIsMarked last held }

@@ -1,7 +1,8 @@
 //! One key of a cache as a register that may forget: what an application may rely on.
 //!
 //! No program uses this crate. Its functions do nothing: their contracts are the laws, and the examples that are computed when the crate is
-//! proved. `specs/Registers.antt` has the register whole, `specs/Examples.antt` the short forms of the commands in the examples.
+//! proved. Read `specs/Registers.antt` for the register, `specs/Guarantees.antt` for what an application may rely on, and
+//! `specs/Examples.antt` for the short forms of the commands in the examples.
 #![tactic(auto)]
 
 mod guarantees;

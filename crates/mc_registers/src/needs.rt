@@ -1,4 +1,4 @@
-//! What the premises of the laws are for: runs in which one fails, and so does what the law promises.
+//! Why the laws have premises: runs in which one premise fails, and so does what the law promises.
 ghost use Rattle.std.specs.Prelude.{◌≡◌, pos, [], ◌∷◌, None, codes};
 ghost use Rattle.mc_request.specs.declared.faults.Fault.TheVariants.{OutOfMemory};
 ghost use Rattle.mc_request.specs.declared.parts.StoreMode.TheVariants.{Set, Add, Append};
@@ -16,8 +16,8 @@ pub fn another_value_is_read()
     ensures { IsLife (storing Set (codes "a") Stored ∷ storing Set (codes "b") Stored ∷ getting (a_hit (codes "b")) ∷ []) }
 {}
 
-/// A value is joined to what is held, or is refused. Or its item is forgotten, and an `mg` with `N` makes another, before the read or itself. Then
-/// another value is shown.
+/// A value is joined to the stored one, or is refused. Or its item is forgotten, and an `mg` with `N` makes another, either before the read or as
+/// the read itself. Then another value is shown.
 pub fn other_values_are_read()
     ensures joined { IsLife (storing Set (codes "a") Stored ∷ storing Append (codes "b") Stored ∷ getting (a_hit (codes "ab")) ∷ []) }
     ensures refused { IsLife (storing Set (codes "a") Stored ∷ storing Set (codes "b") (Fault OutOfMemory) ∷ getting (a_hit (codes "a")) ∷ []) }
@@ -25,12 +25,12 @@ pub fn other_values_are_read()
     ensures filled { IsLife (storing Set (codes "a") Stored ∷ making_shown ∷ []) }
 {}
 
-/// Another client stored a number in between, so a count gives a number that was given before.
+/// Another client stored a number in between, so a count returns a number that was returned before.
 pub fn another_number_is_counted()
     ensures { IsLife (storing Set (codes "5") Stored ∷ counting_up 1 (Number 6) ∷ storing Set (codes "5") Stored ∷ counting_up 1 (Number 6) ∷ []) }
 {}
 
-/// A counter is forgotten, and a count that makes an item gives a number that was given before.
+/// A counter is forgotten, and a count that makes an item returns a number that was returned before.
 pub fn forgotten_counters_begin_anew()
     ensures { IsLife (making_counter 1 ∷ counting_up 1 (Number 2) ∷ making_counter 1 ∷ counting_up 1 (Number 2) ∷ []) }
 {}
@@ -42,7 +42,7 @@ pub fn limits_begin_anew()
     ensures deleted { IsLife (limiting_at 0 (codes "1") ∷ deleting Deleted ∷ limiting_at 5 (codes "1") ∷ []) }
 {}
 
-/// A lock is forgotten, let go, or dead, and a second client takes it.
+/// A lock is forgotten, released, or dead, and a second client takes it.
 pub fn forgotten_locks_are_taken()
     ensures forgotten { IsLife (storing Add (codes "a") Stored ∷ storing Add (codes "b") Stored ∷ []) }
     ensures deleted { IsLife (storing Add (codes "a") Stored ∷ deleting Deleted ∷ storing Add (codes "b") Stored ∷ []) }
@@ -63,7 +63,7 @@ pub fn numbers_fit_another_life()
     ensures after { IsLife (storing Set (codes "b") Stored ∷ comparing 1 (codes "c") Stored ∷ []) }
 {}
 
-/// Two caches begin alike. The first shows a number, and a `cas` with it stores in the second.
+/// Two caches begin at the same number. The first shows a number, and a `cas` with it stores in the second.
 pub fn old_numbers_fit_another_cache()
     ensures before { done_on the_key (opening_cache 1000 10 0) (granted 0 (store_of Set (pos 0) the_key (codes "a")) ∷ granted 0 (get_with_number the_key) ∷ [])
         ≡ storing Set (codes "a") Stored ∷ getting_number (a_numbered_hit 1 (codes "a")) ∷ [] }

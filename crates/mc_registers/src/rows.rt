@@ -7,14 +7,14 @@ ghost use Rattle.mc_reply.specs.declared.replies.Reply.TheVariants.{Stored, NotS
 ghost use Rattle.mc_cache_laws.specs.Examples.{store_of, get_of};
 ghost use Rattle.mc_registers.specs.Examples.{the_key, answered_at, storing, comparing, getting, getting_number, deleting, counting_up, showing_count, limiting_at, making, recaching_at, storing_at, invalidating_at, a_hit, a_numbered_hit, IsLife};
 
-/// A value that is stored is shown, until another is stored in its place, or joined to it.
+/// A stored value is shown, until another is stored in its place, or joined to it.
 pub fn stored_values_are_shown()
     ensures set { IsLife (storing Set (codes "a") Stored ∷ getting (a_hit (codes "a")) ∷ []) }
     ensures twice { IsLife (storing Set (codes "a") Stored ∷ storing Set (codes "b") Stored ∷ getting (a_hit (codes "b")) ∷ []) }
     ensures joined { IsLife (storing Set (codes "a") Stored ∷ storing Append (codes "b") Stored ∷ getting (a_hit (codes "ab")) ∷ []) }
 {}
 
-/// An item may be forgotten before any command: then it is missed, and an `add` stores. It is forgotten when it is dead.
+/// An item may be forgotten before any command: then a get misses, and an `add` stores. A dead item is forgotten.
 pub fn items_are_forgotten()
     ensures missed { IsLife (storing Set (codes "a") Stored ∷ getting Miss ∷ getting Miss ∷ []) }
     ensures added { IsLife (storing Add (codes "a") Stored ∷ storing Add (codes "b") Stored ∷ getting (a_hit (codes "b")) ∷ []) }
@@ -23,7 +23,7 @@ pub fn items_are_forgotten()
         ∷ answered_at 110 (get_of the_key) Miss ∷ []) }
 {}
 
-/// A number is counted from what is held.
+/// A count goes on from the stored number.
 pub fn counters_are_counted()
     ensures { IsLife (storing Set (codes "5") Stored ∷ counting_up 1 (Number 6) ∷ counting_up 2 (Number 8) ∷ getting (a_hit (codes "8")) ∷ []) }
 {}
@@ -38,18 +38,18 @@ pub fn shown_counts_are_counted()
     ensures { IsLife (storing Set (codes "5") Stored ∷ counting_up 1 (Number 6) ∷ showing_count 2 (codes "8") ∷ counting_up 1 (Number 9) ∷ []) }
 {}
 
-/// A `cas` stores once for a number. Between two numbers of a key are those of others.
+/// A `cas` stores once for a number. Between two numbers of a key are numbers of other keys.
 pub fn numbers_are_compared()
     ensures { IsLife (storing Set (codes "a") Stored ∷ getting_number (a_numbered_hit 4 (codes "a")) ∷ comparing 4 (codes "b") Stored
         ∷ comparing 4 (codes "c") Exists ∷ getting_number (a_numbered_hit 9 (codes "b")) ∷ []) }
 {}
 
-/// A store that is refused leaves what is held.
+/// A store that is refused leaves the stored item.
 pub fn refused_stores_change_nothing()
     ensures { IsLife (storing Set (codes "a") Stored ∷ storing Set (codes "b") (Fault OutOfMemory) ∷ getting (a_hit (codes "a")) ∷ []) }
 {}
 
-/// Of the clients that find a mark one is told to fill the item.
+/// One of the clients that find a mark is asked to fill the item.
 pub fn marks_are_won()
     ensures made { IsLife (making Won ∷ making Sent ∷ getting (a_hit (codes "")) ∷ []) }
     ensures ending { IsLife (storing_at 100 ∷ recaching_at 105 Won ∷ recaching_at 106 Sent ∷ []) }

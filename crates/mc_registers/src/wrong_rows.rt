@@ -1,4 +1,5 @@
-//! Worked examples of the register: histories that no register has, whatever it forgets and gives.
+//! Worked examples of the register: histories that no register has, whatever it forgets and
+//! whatever numbers it gives.
 ghost use Rattle.std.specs.Prelude.{[], ◌∷◌, pos, codes};
 ghost use Rattle.mc_request.specs.declared.faults.Fault.TheVariants.{OutOfMemory};
 ghost use Rattle.mc_request.specs.declared.parts.StoreMode.TheVariants.{Set, Add, Replace};

@@ -1,4 +1,4 @@
--- The outputs that answer a script: one list at most for the same refusals, and one with none.
+-- The outputs that answer a script: at most one list for given refusals, and one without any.
 use Rattle.std.proofs.Common.{◌≡◌, ◌≢◌, ◌∙◌, ⊎_elim, ℕ, ◌+◌, ◌<◌, ◌≤◌, ◌==◌, Bool, true, false, if◌then◌else◌, List, [], ◌∷◌, ◌++◌, length, take, get_or, map, refl, sym, ap, subst, arith, append_assoc, length-append}
 use Rattle.std.specs.List.{All, range_with_len}
 use Rattle.std.proofs.lemmas.Bool.Decides.{nat_tests, eqb_tells}
@@ -25,7 +25,7 @@ use Rattle.mc_script.proofs.HistoryLemmas.{text_more, text_turn, taken_by, serve
 abbrev entry : ℕ → Taken → ℕ → Bool → Entry
 entry connection what moment refused = record { connection = connection; what = what; moment = moment; refused = refused }
 
--- what was taken of a connection first, and after it
+-- the requests that were taken of a connection first, and after it
 head_taken : (x y : Entry) (xs ys : List Entry) → x.connection ≡ y.connection → taken_of x.connection (x ∷ xs) ≡ taken_of x.connection (y ∷ ys) → x.what ≡ y.what
 head_taken x y xs ys same h =
     let first : taken_of x.connection (x ∷ xs) ≡ x.what ∷ taken_of x.connection xs = rw (own_number x.connection) refl in
@@ -43,7 +43,7 @@ tail_taken number x y xs ys same h =
       | false ↦ λ k. k
     ]) (h ∙ again)
 
--- entries are what was taken of each connection, by which turns, and what was refused
+-- entries are determined by what was taken of each connection, by which turns, and by what was refused
 same_entries : (a b : List Entry) → ((number : ℕ) → taken_of number a ≡ taken_of number b) → turns_of a ≡ turns_of b → refusals_of a ≡ refusals_of b → a ≡ b
 same_entries [] [] t m r = refl
 same_entries [] (y ∷ ys) t m r = absurd cc
@@ -61,7 +61,7 @@ same_entries (x ∷ xs) (y ∷ ys) t m r =
     ∙ ap (λ (n : ℕ). entry y.connection y.what n x.refused) moment ∙ ap (λ (b : Bool). entry y.connection y.what y.moment b) refused in
     ap (λ (e : Entry). e ∷ xs) same ∙ ap (λ (es : List Entry). y ∷ es) others
 
--- once it is said which stores were refused memory, the outputs that answer a script are one
+-- for given refusals of memory, the outputs that answer a script are one list
 pub one_answer : (script : ScriptSeen) (a b : List (List ℕ)) (x : Answers script a) (y : Answers script b) → refusals_of x.history ≡ refusals_of y.history → a ≡ b
 one_answer script a b x y same =
     let turns = x.turns ∙ sym y.turns in
@@ -72,21 +72,21 @@ one_answer script a b x y same =
     let entries = same_entries x.history y.history taken turns same in
     x.answered ∙ ap (λ (es : List Entry). map (λ number. answers_to number (cache_of script) es) (range_with_len 0 script.connections)) entries ∙ sym y.answered
 
--- a history that the first events allow, in which memory was refused to nothing
+-- a history that the first events allow, in which memory was refused to no store
 record Grants (opening : CacheState) (events : List Event) (history : List Entry) : Type 0 where
   legal : IsLegalHistory opening history
   taken : (number : ℕ) → taken_of number history ≡ take (length (taken_of number history)) (requests_of (text_fed number events))
   granted : All (λ refused. refused ≡ false) (refusals_of history)
 
--- no more was taken of a connection than its text has
+-- at most as many requests were taken of a connection as its text has
 few : (xs ys : List Taken) → xs ≡ take (length xs) ys → length xs ≤ length ys
 few xs ys h = omega (arith, ap length h, length-take (length xs) ys)
 
--- what is the first of a list is that of a longer one
+-- the first elements of a list are those of a longer one
 still_first : (xs ys all more : List Taken) → xs ≡ take (length xs) ys → all ≡ ys ++ more → xs ≡ take (length xs) all
 still_first xs ys all more h is = h ∙ sym (take-append-le (length xs) ys more (few xs ys h)) ∙ ap (λ (ts : List Taken). take (length xs) ts) (sym is)
 
--- the next one after the first
+-- the next element after the first
 next_one : (xs : List Taken) (n : ℕ) → n < length xs → (x : Taken) × (take (n + 1) xs ≡ take n xs ++ x ∷ [])
 next_one [] n inside = absurd (omega arith)
 next_one (x ∷ xs) n inside = (get_or (x ∷ xs) n x, take_more (x ∷ xs) n x inside)
@@ -94,7 +94,7 @@ next_one (x ∷ xs) n inside = (get_or (x ∷ xs) n x, take_more (x ∷ xs) n x 
 grants_none : (opening : CacheState) → Grants opening [] []
 grants_none opening = record { legal = tt; taken = λ number. refl; granted = λ k d inside. absurd (omega arith) }
 
--- bytes come
+-- bytes arrive
 grants_bytes : (opening : CacheState) (events : List Event) (history : List Entry) (connection : ℕ) (bytes : List ℕ) → Grants opening events history → Grants opening (events ++ Bytes connection bytes ∷ []) history
 grants_bytes opening events history connection bytes h = record {
   legal = h.legal;
@@ -113,7 +113,7 @@ grants_idle opening events history connection moment h = record {
   granted = h.granted;
 }
 
--- a turn takes the next one
+-- a turn takes the next request
 grants_turn : (opening : CacheState) (events : List Event) (history : List Entry) (connection moment : ℕ) (what : Taken) → Grants opening events history
     → take (length (taken_of connection history) + 1) (requests_of (text_fed connection events)) ≡ take (length (taken_of connection history)) (requests_of (text_fed connection events)) ++ what ∷ []
     → Grants opening (events ++ Turn connection moment ∷ []) (history ++ (record { connection = connection; what = what; moment = moment; refused = false }) ∷ [])
@@ -139,7 +139,7 @@ grants_turn opening events history connection moment what h next =
           (All-push (λ refused. refused ≡ false) (refusals_of history) false h.granted refl);
     }
 
--- a history goes on by an event
+-- a history grows by an event
 record GoesOn (opening : CacheState) (events : List Event) (event : Event) (history : List Entry) : Type 0 where
   longer : List Entry
   grants : Grants opening (events ++ event ∷ []) longer
@@ -167,7 +167,7 @@ event_goes_on : (opening : CacheState) (events : List Event) (event : Event) (hi
 event_goes_on opening events (Bytes connection bytes) history h = record { longer = history; grants = grants_bytes opening events history connection bytes h; turns = refl }
 event_goes_on opening events (Turn connection moment) history h = turn_goes_on opening events history connection moment (finds_one connection events (turns_of history)) refl h
 
--- and by all that are left
+-- a history grows by all events that are left
 record Ends (opening : CacheState) (before events : List Event) (history : List Entry) : Type 0 where
   longer : List Entry
   grants : Grants opening (before ++ events) longer
@@ -188,7 +188,7 @@ all_go_on opening before (event ∷ events) history h =
       turns = rest.turns ∙ ap (λ (turns : List (ℕ × ℕ)). turns_served (before ++ event ∷ []) turns events) first.turns;
     }
 
--- some outputs answer a script, where memory is refused to nothing
+-- some outputs answer a script, with memory refused to no store
 pub some_answer : (script : ScriptSeen) → (outputs : List (List ℕ)) × AnswersUnrefused script outputs
 some_answer script =
     let opening = cache_of script in
@@ -200,7 +200,7 @@ some_answer script =
       },
     )
 
--- turns of connections that are there
+-- turns of connections that exist
 Below : ℕ → List (ℕ × ℕ) → Type 0
 Below connections turns = All (λ turn. turn.0 < connections) turns
 
@@ -216,7 +216,8 @@ turns_below connections before served (Turn connection moment ∷ events) below 
     (elim (finds_one connection before served) as (λ v. Below connections (if v then served ++ (connection, moment) ∷ [] else served)) [ true ↦ longer | false ↦ below ]) in
     turns_below connections (before ++ Turn connection moment ∷ []) (served_with before served (Turn connection moment)) events next (All-tail (IsEventOf connections) (Turn connection moment) events all)
 
--- where a refused entry is answered a line, and no answer has it as a part, memory was refused to no entry
+-- if a refused entry has a line as its answer, and no answer has that line as a part, memory was refused
+-- to no entry
 all_granted : (line : List ℕ) → ((s : CacheState) (e : Entry) → IsLegalAt s e → e.refused ≡ true → answer_after s e ≡ line)
     → (connections : ℕ) (s : CacheState) (es : List Entry) → IsLegalHistory s es → Below connections (turns_of es)
     → ((number : ℕ) → number < connections → HasPart (answers_to number s es) line → ⊥) → All (λ refused. refused ≡ false) (refusals_of es)
@@ -242,7 +243,7 @@ all_granted line told connections s (e ∷ es) legal below never =
     })) in
     All-cons (λ refused. refused ≡ false) e.refused (refusals_of es) first others
 
--- outputs without the line are those of a history in which memory was refused to nothing
+-- outputs without the line are those of a history in which memory was refused to no store
 pub no_refusal : (script : ScriptSeen) → All (IsEventOf script.connections) script.events → (outputs : List (List ℕ)) (x : Answers script outputs) → TellNoRefusal outputs
     → All (λ refused. refused ≡ false) (refusals_of x.history)
 unfolding Below
@@ -258,7 +259,7 @@ no_refusal script all outputs x silent =
     ap (λ (os : List (List ℕ)). get_or os number []) x.answered ∙ get_or-map-range_with_len answer_of_number 0 script.connections number number [] lt (omega arith) in
     silent number [] (omega (arith, size, lt)) (subst (λ (bytes : List ℕ). HasPart bytes (fault_line OutOfMemory)) (sym here) part))
 
--- histories of the same turns with nothing refused
+-- histories of the same turns, in which memory was refused to no store
 none_refused : (a b : List Entry) → turns_of a ≡ turns_of b → All (λ refused. refused ≡ false) (refusals_of a) → All (λ refused. refused ≡ false) (refusals_of b) → refusals_of a ≡ refusals_of b
 none_refused [] [] turns first second = refl
 none_refused [] (y ∷ ys) turns first second = absurd cc
@@ -269,7 +270,7 @@ none_refused (x ∷ xs) (y ∷ ys) turns first second =
     let again = none_refused xs ys others (All-tail (λ refused. refused ≡ false) x.refused (refusals_of xs) first) (All-tail (λ refused. refused ≡ false) y.refused (refusals_of ys) second) in
     ap (λ (b : Bool). b ∷ refusals_of xs) here ∙ ap (λ (bs : List Bool). y.refused ∷ bs) again
 
--- and they are the only ones
+-- no other outputs answer it
 pub only_answer : (script : ScriptSeen) → All (IsEventOf script.connections) script.events → (a b : List (List ℕ)) → AnswersUnrefused script a → Answers script b → TellNoRefusal b → b ≡ a
 only_answer script all a b x y silent =
     one_answer script b a y x.answers (none_refused y.history x.answers.history (y.turns ∙ sym x.answers.turns) (no_refusal script all b y silent) x.granted)

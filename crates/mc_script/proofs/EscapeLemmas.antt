@@ -1,4 +1,4 @@
--- Escapes, and what they stand for.
+-- Escapes, and the bytes that they stand for.
 use Rattle.std.proofs.Common.{◌≡◌, ℕ, zero, suc, ◌+◌, ◌-◌, ◌*◌, ◌/◌, ◌%◌, ◌<◌, ◌≤◌, ◌&&◌, not, Bool, true, false, cond, List, [], ◌∷◌, ◌++◌, length, take, drop, get_or, Option, Some, None, refl, sym, ap, ◌∙◌, arith, eqb, nat_le, append-nil, append_assoc}
 use Rattle.std.proofs.Math.Seq.{take-add, take-append-add}
 use Rattle.std.proofs.lemmas.List.{length-take, length-take-le, take-append-drop, take-take, take_rest}
@@ -20,7 +20,7 @@ none_stays : (o : Option (List ℕ)) → o ≡ None → option_map (λ text. tex
 none_stays None e = refl
 none_stays (Some x) e = absurd cc
 
--- after what is no escape nothing is read
+-- after bytes that are no escape nothing is read
 pub text_from_lost : (text : List ℕ) → text_from Lost text ≡ None
 unfolding text_from
 text_from_lost [] = refl
@@ -37,13 +37,13 @@ unfolding text_from
 text_of-read text [] bytes e z = sym (e ∙ ap (λ (bs : List ℕ). Some bs) (append-nil bytes))
 text_of-read text (b ∷ bs) bytes e z = absurd (omega arith)
 
--- no text stands for no bytes
+-- an empty text stands for no bytes
 pub text_of-none_left : (rest : List ℕ) → length rest ≡ 0 → true ≡ is_some (text_of rest)
 unfolding text_from
 text_of-none_left [] z = refl
 text_of-none_left (b ∷ bs) z = absurd (omega arith)
 
--- what a reader of escapes meets after a backslash
+-- what a reader of escapes finds after a backslash
 pub ruleset after_backslash = (text_from_lost, text_from_x)
 
 -- a byte that stands for itself
@@ -94,14 +94,14 @@ read_escape b rest small =
       ]) refl
     ]) refl
 
--- what was escaped is read again
+-- escaped bytes are read back as they were
 pub text_of-escaped : (bytes : List ℕ) → All (λ b. b < 256) bytes → text_of (escaped bytes) ≡ Some bytes
 unfolding text_from
 text_of-escaped [] small = refl
 text_of-escaped (b ∷ bs) small =
     read_escape b (escaped bs) (small 0 0 (omega arith)) ∙ rw (text_of-escaped bs (λ k d lt. small (suc k) d (omega arith))) refl
 
--- what is escaped of two texts
+-- the escapes of two texts
 escaped-append : (xs ys : List ℕ) → escaped (xs ++ ys) ≡ escaped xs ++ escaped ys
 escaped-append [] ys = refl
 escaped-append (x ∷ xs) ys = ap (λ (zs : List ℕ). escape_of x ++ zs) (escaped-append xs ys) ∙ sym (append_assoc (escape_of x) (escaped xs) (escaped ys))
@@ -115,7 +115,7 @@ pub escape_of-plain : (b : ℕ) → is_plain b ≡ true → escape_of b ≡ b �
 unfolding escape_of
 escape_of-plain b plain = grind (arith, plain)
 
--- of a run of bytes that stand for themselves, so many
+-- the first bytes of a run that stand for themselves
 pub escaped_run : (n : ℕ) (bytes : List ℕ) → n ≤ prefix_len is_plain bytes → escaped (take n bytes) ≡ take n bytes
 escaped_run zero bytes le = refl
 escaped_run (suc n) [] le = absurd (omega arith)
@@ -125,7 +125,7 @@ escaped_run (suc n) (b ∷ bs) le =
       | false ↦ λ _ none. absurd (omega arith)
     ]) refl le
 
--- a run that goes on from the first of two texts to the second
+-- a run that continues from the first of two texts to the second
 pub run_goes_on : (xs ys : List ℕ) → prefix_len is_plain xs ≡ length xs → prefix_len is_plain (xs ++ ys) ≡ length xs + prefix_len is_plain ys
 run_goes_on xs ys all = grind (arith, prefix_len-append is_plain xs ys)
 
@@ -149,12 +149,12 @@ run_past n xs tested =
     ∙ ap (λ (k : ℕ). k + prefix_len is_plain (drop n xs)) (length-take-le n xs within) in
     (within, is)
 
--- bytes before others, in what a text stands for
+-- bytes before others, in the bytes that a text stands for
 joined : (xs ys : List ℕ) (o : Option (List ℕ)) → option_map (λ more. xs ++ more) (option_map (λ more. ys ++ more) o) ≡ option_map (λ more. (xs ++ ys) ++ more) o
 joined xs ys None = refl
 joined xs ys (Some zs) = ap (λ (bs : List ℕ). Some bs) (sym (append_assoc xs ys zs))
 
--- one byte more of a run
+-- a run with one more byte
 next_in : (n : ℕ) → 1 + n ≡ suc n
 next_in n = omega arith
 
@@ -169,13 +169,13 @@ run_is (b ∷ bs) =
       | false ↦ λ e. rw (next_in n) (read_plain b bs e ∙ ap (λ (o : Option (List ℕ)). option_map (λ more. b ∷ more) o) (run_is bs) ∙ joined (b ∷ []) (take n bs) (text_of (drop n bs)))
     ]) refl
 
--- such a run is put after other bytes
+-- such a run is appended to other bytes
 pub reads_run : (before text : List ℕ) (n : ℕ) → n ≡ position_or_len (λ b. eqb b 92) text → ReadsFront before Between text (before ++ take n text) (drop n text)
 reads_run before text n is =
     let run : text_of text ≡ option_map (λ more. take n text ++ more) (text_of (drop n text)) = rw is (run_is text) in
     ap (λ (o : Option (List ℕ)). option_map (λ more. before ++ more) o) run ∙ joined before (take n text) (text_of (drop n text))
 
--- after a run no other begins
+-- no run begins at the end of another
 run_ends_at : (text : List ℕ) → position_or_len (λ b. eqb b 92) (drop (position_or_len (λ b. eqb b 92) text) text) ≡ 0
 run_ends_at [] = refl
 run_ends_at (b ∷ bs) =
@@ -188,7 +188,7 @@ run_ends_at (b ∷ bs) =
 pub run_ends : (text : List ℕ) (n : ℕ) → n ≡ position_or_len (λ b. eqb b 92) text → position_or_len (λ b. eqb b 92) (drop n text) ≡ 0
 run_ends text n is = rw is (run_ends_at text)
 
--- the first byte of a run is put after other bytes
+-- the first byte of a run is appended to other bytes
 pub reads_one : (before text : List ℕ) → 0 < position_or_len (λ b. eqb b 92) text
     → ReadsFront before Between text (before ++ get_or text 0 0 ∷ []) (take (length text - 1) (drop 1 text))
 reads_one before [] some = absurd (omega arith)
@@ -196,7 +196,7 @@ reads_one before (b ∷ bs) some =
     rw (take_rest (b ∷ bs) 1)
     (ap (λ (o : Option (List ℕ)). option_map (λ more. before ++ more) o) (read_plain b bs (grind (arith, some))) ∙ joined before (b ∷ []) (text_of bs))
 
--- two bytes that are no backslash are put after other bytes
+-- two bytes that are no backslash are appended to other bytes
 pub reads_two : (before text : List ℕ) → 1 < length text → 0 < position_or_len (λ b. eqb b 92) text → (get_or text 1 0 ≡ 92 → ⊥)
     → ReadsFront before Between text ((before ++ get_or text 0 0 ∷ []) ++ get_or text 1 0 ∷ []) (take (length text - 2) (drop 2 text))
 reads_two before [] long some other = absurd (omega arith)
@@ -215,11 +215,11 @@ block_end n text count le is lt =
     (λ k low. run_in_chunk_fails (λ b. eqb b 92) text 0 n count 0 (omega arith) is k (omega arith) (omega arith))
     (λ _. ap (λ (k : ℕ). eqb (get_or text k 0) 92) (omega arith) ∙ run_in_chunk_stops (λ b. eqb b 92) text 0 n count 0 (omega arith) is lt))
 
--- a run in the first bytes has no more than these
+-- a run in the first bytes is at most as long as these
 pub run_in_block_le : (text : List ℕ) → position_or_len (λ b. eqb b 92) (take 16 text) ≤ 16
 run_in_block_le text = omega (arith, prefix_len-le-length (λ b. not (eqb b 92)) (take 16 text), length-take 16 text)
 
--- such a run is put after other bytes with what follows it there, and that is taken away again
+-- such a run is appended to other bytes with the bytes after it there, and these are removed again
 pub reads_in_block : (before text : List ℕ) (count held : ℕ) → length before ≡ held → 16 ≤ length text
     → count ≡ position_or_len (λ b. eqb b 92) (take 16 text) → count < 16
     → ReadsFront before Between text (take (held + count) (before ++ take 16 text)) (drop count text)
@@ -229,18 +229,18 @@ reads_in_block before text count held size long is lt =
     ∙ ap (λ (xs : List ℕ). before ++ xs) (take-take count 16 text (omega arith)) in
     rw kept (reads_run before text count (block_end 16 text count long is lt))
 
--- what a run ends at is within the text
+-- the end of a run is within the text
 pub run_within : (text : List ℕ) → position_or_len (λ b. eqb b 92) text ≤ length text
 run_within text = prefix_len-le-length (λ b. not (eqb b 92)) text
 
--- where a run ends, as a search for the backslash says
+-- the end of a run, as a search for the backslash finds it
 pub run_end : (text : List ℕ) (found : Option ℕ) → IsFirstByte (is_byte 92) text found → unwrap_or found (length text) ≡ position_or_len (λ b. eqb b 92) text
 run_end text (Some end) first =
     sym (position_or_len_is (λ b. eqb b 92) text end 0 (omega (arith, first.0.high)) (λ k lt. not_true (eqb (get_or text k 0) 92) (first.0.before k (omega arith) lt)) (λ _. first.1))
 run_end text None nowhere =
     sym (position_or_len_is (λ b. eqb b 92) text (length text) 0 (omega arith) (λ k lt. not_true (eqb (get_or text k 0) 92) (nowhere k (omega arith) lt)) (λ lt. absurd (omega arith)))
 
--- what is after a run and is no end of the text is a backslash, and what follows it
+-- a text after a run that is not at its end begins with a backslash
 pub at_backslash : (text : List ℕ) → 1 ≤ length text → position_or_len (λ b. eqb b 92) text ≡ 0
     → text_from Between text ≡ text_from Backslash (take (length text - 1) (drop 1 text))
 unfolding text_from

@@ -28,8 +28,8 @@ use Rattle.mc_script.proofs.OutputLemmas.{opened_more}
 abbrev texts_fed : List Event → ℕ → List ℕ
 texts_fed events number = text_fed number events
 
--- Where the first events leave a server: its connections are open, it is where a history leaves it, and the turns to
--- come go on from the turns of that history.
+-- The state in which the first events leave a server: its connections are open, its state is that of a history, and
+-- the remaining turns continue the turns of that history.
 pub record Played (opening : CacheState) (connections : ℕ) (events : List Event) (i : ℕ) (server : ServerState) : Type 0 where
   pub history : List Entry
   pub are_open : (number : ℕ) → number < connections → IsSome (connection_at server number)
@@ -44,7 +44,7 @@ fresh_open from (suc count) number low high =
     (λ e. let above : from + 1 ≤ number = omega (arith, e.1) in rw e.0 (fresh_open (from + 1) count number above (omega arith)))
     (eqb_tells from number)
 
--- such a server is where no history leaves it
+-- such a server has the state of an empty history
 opened_holds : (opening : CacheState) (count : ℕ) → ServerHolds opening (λ _. []) (λ _. []) [] (opened opening count)
 opened_holds opening zero = ServerHolds-new opening
 opened_holds opening (suc count) =
@@ -66,7 +66,7 @@ events_more events i e h is = take_more events i e h ∙ ap (λ (x : Event). tak
 events_left : (events : List Event) (i : ℕ) (e : Event) → i < length events → get_or events i e ≡ e → drop i events ≡ e ∷ drop (i + 1) events
 events_left events i e h is = drop-cons events i e h ∙ rw (is, add-one) refl
 
--- the text of one event more
+-- the text after one more event
 pub text_more : (number : ℕ) (events : List Event) (e : Event) → text_fed number (events ++ e ∷ []) ≡ text_fed number events ++ bytes_fed number e
 text_more number events e =
     flat_map-append (λ event. bytes_fed number event) events (e ∷ []) ∙ ap (λ (xs : List ℕ). text_fed number events ++ xs) (append-nil (bytes_fed number e))
@@ -84,7 +84,7 @@ taken_by number (e ∷ es) =
       | false ↦ omega arith
     ]) ∙ sym (sum_by-cons (λ (turn : ℕ × ℕ). if turn.0 == number then 1 else 0) (e.connection, e.moment) (turns_of es))
 
--- whether its text has one more, by what is left of it
+-- whether its text has one more, by the text that is left
 has_one : (opening : CacheState) (number : ℕ) (text : List ℕ) (history : List Entry) (c : ConnectionState) (what : Taken) (others : List Taken)
     → Holds opening number text history [] c → rest_of c.reader [] ≡ what ∷ others → nat_lt (turns_by number (turns_of history)) (length (requests_of text)) ≡ true
 has_one opening number text history c what others h e =
@@ -142,7 +142,7 @@ waits opening connections events i number moment old new before after inside is 
     (ServerHolds-same opening so_far (texts_fed (take i events ++ Turn number moment ∷ [])) (λ _. []) (λ _. []) h.history new (λ m. text_turn m number moment (take i events)) (λ _. refl) holds)
     (served_none (take i events) (turns_of h.history) number moment finds)
 
--- a turn that takes one makes the history longer by it
+-- a turn that takes one adds it to the history
 takes : (opening : CacheState) (connections : ℕ) (events : List Event) (i number moment : ℕ) (old new : ServerState)
     → i < length events → get_or events i (Turn number moment) ≡ Turn number moment → Played opening connections events i old → Steps number old new (IsTurn number moment Took)
     → Played opening connections events (i + 1) new
@@ -171,7 +171,7 @@ turns opening connections events i number moment old new Closing inside is h ste
     waits opening connections events i number moment old new steps.before steps.after inside is h steps.was steps.is (closed_rest steps.before steps.step.0)
     (ServerHolds-closing opening (texts_fed (take i events)) (λ _. []) h.history number moment old new h.holds steps)
 
--- an event
+-- one event is played
 pub plays : (opening : CacheState) (connections : ℕ) (events : List Event) (i : ℕ) (e : Event) (old new : ServerState)
     → i < length events → get_or events i e ≡ e → Played opening connections events i old → Plays e old new → Played opening connections events (i + 1) new
 plays opening connections events i (Bytes number bytes) old new inside is h steps =
@@ -189,7 +189,7 @@ same_map f g from (suc count) same =
     ap (λ (x : List ℕ). x ∷ map f (range_with_len (from + 1) count)) (same from (omega arith) (omega arith))
     ∙ ap (λ (xs : List (List ℕ)). g from ∷ xs) (same_map f g (from + 1) count (λ n low high. same n (omega arith) (omega arith)))
 
--- the output of a connection that is open is all that was answered to it
+-- the output of an open connection is all answers to it
 output_at : (opening : CacheState) (number : ℕ) (text : List ℕ) (history : List Entry) (c : Option ConnectionState) → IsSome c → ServerHoldsAt opening number text history [] c → output_of c ≡ answers_to number opening history
 output_at opening number text history None never h = absurd cc
 output_at opening number text history (Some c) is_open h = h.answered

@@ -12,7 +12,7 @@ pub not_true : (b : Bool) → ((b ≡ true) → ⊥) → b ≡ false
 not_true true h = absurd (h refl)
 not_true false h = refl
 
--- the lines of a text, by where its first line feed is
+-- the lines of a text, by the index of its first line feed
 pub lines_from-found : (text : List ℕ) (end n : ℕ) → IsFirstByte (is_byte 10) text (Some end)
     → lines_from n text ≡ with_line n (take end text) (lines_from (n + 1) (drop (end + 1) text))
 unfolding lines_from

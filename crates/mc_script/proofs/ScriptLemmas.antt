@@ -8,12 +8,12 @@ use Rattle.mc_script.specs.declared.errors.SimError.{SimError}
 use Rattle.mc_script.specs.declared.errors.SimError.TheVariants.{BadLine, Stream, Memory}
 use Rattle.mc_script.specs.declared.events.Event.{Event}
 
--- events in front of what lines give
+-- events in front of those of lines
 abbrev pub with_front : List Event → Result (List Event) ℕ → Result (List Event) ℕ
 with_front front (Ok events) = Ok (front ++ events)
 with_front front (Err line) = Err line
 
--- one event more
+-- one more event
 pub with_front-more : (front : List Event) (n : ℕ) (event : Event) (r : Result (List Event) ℕ) → with_front front (with_event n (Some event) r) ≡ with_front (front ++ event ∷ []) r
 with_front-more front n event (Ok events) = ap (λ (es : List Event). Ok es) (sym (append_assoc front (event ∷ []) events))
 with_front-more front n event (Err line) = refl
@@ -31,12 +31,12 @@ pub events_of-bad : (connections : ℕ) (front : List Event) (n : ℕ) (line : L
 unfolding events_of
 events_of-bad connections front n line lines rest first none = rw (first, none) refl
 
--- no line more
+-- no more lines
 pub events_of-nil : (connections : ℕ) (front : List Event) (lines : List (ℕ × List ℕ)) → lines ≡ [] → with_front front (events_of connections lines) ≡ Ok front
 unfolding events_of
 events_of-nil connections front lines none = rw none (ap (λ (es : List Event). Ok es) (append-nil front))
 
--- a script of no line
+-- a script without lines
 pub script_of_lines-nil : (lines : List (ℕ × List ℕ)) → lines ≡ [] → script_of_lines lines ≡ Err 1
 unfolding script_of_lines
 script_of_lines-nil lines none = rw none refl
@@ -46,7 +46,7 @@ pub script_of_lines-bad : (n : ℕ) (line : List ℕ) (lines rest : List (ℕ ×
 unfolding script_of_lines
 script_of_lines-bad n line lines rest first none = rw (first, none) refl
 
--- a first line that is a server's, before what the others give
+-- a first line that is a server's, before the result of the others
 pub script_of_lines-server : (n : ℕ) (line : List ℕ) (lines rest : List (ℕ × List ℕ)) (server : ℕ × ℕ × ℕ) → lines ≡ (n, line) ∷ rest → server_of line ≡ Some server
     → script_of_lines lines ≡ with_events server (events_of server.0 rest)
 unfolding script_of_lines
@@ -58,7 +58,7 @@ explains-more (BadLine m) server events h = rw h refl
 explains-more (Stream side) server events h = h
 explains-more Memory server events h = tt
 
--- past a line that is an event the first bad line is the same
+-- after a line that is an event the first bad line stays
 past_event : (event : Option Event) (n : ℕ) (events : Result (List Event) ℕ) → is_some event ≡ true → result_err events ≡ result_err (with_event n event events)
 past_event None n events some = absurd cc
 past_event (Some event) n (Ok events) some = refl
@@ -69,7 +69,7 @@ pub bad_line-past : (connections n : ℕ) (line : List ℕ) (lines rest : List (
 unfolding events_of
 bad_line-past connections n line lines rest first some = rw first (past_event (event_of connections line) n (events_of connections rest) some)
 
--- a line that is none is the first bad one
+-- a line that is no event is the first bad one
 no_event : (event : Option Event) (n : ℕ) (events : Result (List Event) ℕ) → is_some event ≡ false → Some n ≡ result_err (with_event n event events)
 no_event None n events none = refl
 no_event (Some event) n events none = absurd cc
@@ -79,7 +79,7 @@ pub bad_line-here : (connections n : ℕ) (line : List ℕ) (lines rest : List (
 unfolding events_of
 bad_line-here connections n line lines rest first none = rw first (no_event (event_of connections line) n (events_of connections rest) none)
 
--- where no line is left, none is bad
+-- if no line is left, none is bad
 pub bad_line-nil : (connections : ℕ) (lines : List (ℕ × List ℕ)) → lines ≡ [] → None ≡ result_err (events_of connections lines)
 unfolding events_of
 bad_line-nil connections lines none = rw none refl

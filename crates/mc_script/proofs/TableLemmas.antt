@@ -8,7 +8,7 @@ use Rattle.std.specs.Option.{option_map_or}
 use Rattle.mc_script.specs.Escapes.{escape_of, hex_value, letter_value}
 use Rattle.mc_script.specs.declared.escape_tables.TheConstants.{DIGITS, ESCAPES, LETTERS, SIZES}
 
--- how many bytes the escape of a byte has
+-- the length of a byte's escape
 abbrev size_of : ℕ → ℕ
 size_of b = length (escape_of b)
 
@@ -16,7 +16,7 @@ size_of b = length (escape_of b)
 abbrev filled : ℕ → List ℕ
 filled b = take 4 (escape_of b ++ 32 ∷ 32 ∷ 32 ∷ [])
 
--- those of so many bytes, from one on
+-- the filled escapes of this number of bytes, from one on
 abbrev filled_from : ℕ → ℕ → List ℕ
 filled_from first zero = []
 filled_from first (suc n) = filled first ++ filled_from (first + 1) n
@@ -29,16 +29,16 @@ escapes_are : ESCAPES.now ≡ filled_from 0 256
 unfolding escape_of
 escapes_are = refl
 
--- the table of sizes has that of each byte
+-- the table of sizes has the length of each byte's escape
 pub size_at : (b : ℕ) → b < 256 → get_or SIZES b 0 ≡ length (escape_of b)
 size_at b h = ap (λ t. get_or t b 0) sizes_are ∙ get_or-map-range_with_len size_of 0 256 b b 0 h (omega arith)
 
--- an escape has four bytes at most
+-- an escape has at most four bytes
 pub escape_short : (b : ℕ) → length (escape_of b) ≤ 4
 unfolding escape_of
 escape_short b = grind (arith)
 
--- and at least one
+-- an escape has at least one byte
 escape_some : (b : ℕ) → 1 ≤ length (escape_of b)
 unfolding escape_of
 escape_some b = grind (arith)
@@ -46,7 +46,7 @@ escape_some b = grind (arith)
 filled_long : (b : ℕ) → length (filled b) ≡ 4
 filled_long b = length-take-le 4 (escape_of b ++ 32 ∷ 32 ∷ 32 ∷ []) (omega (arith, length-append (escape_of b) (32 ∷ 32 ∷ 32 ∷ []), escape_some b))
 
--- the escape at a place of so many that are filled up
+-- the escape at an index of the filled ones
 filled_from_at : (n first i : ℕ) → i < n → take 4 (drop (i * 4) (filled_from first n)) ≡ filled (first + i)
 filled_from_at zero first i h = absurd (omega arith)
 filled_from_at (suc n) first zero h =
@@ -94,7 +94,7 @@ no_value : (o : Option ℕ) (v : ℕ) → IfSome o (λ w. w < 16) → v ≡ opti
 no_value None v small is ge = refl
 no_value (Some w) v small is ge = absurd (omega arith)
 
--- what is below 16 in the table of digits is the digit's value, and another byte has none
+-- an entry below 16 in the table of digits is the digit's value, and a byte with another entry has none
 pub value_is : (c : ℕ) → c < 256 → get_or DIGITS c 0 < 16 → Some (get_or DIGITS c 0) ≡ hex_value c
 value_is c h lt = some_value (hex_value c) (get_or DIGITS c 0) (value_at c h) lt
 
@@ -124,7 +124,8 @@ no_letter : (o : Option ℕ) (v : ℕ) → IfSome o (λ w. 0 < w) → v ≡ opti
 no_letter None v large is none = refl
 no_letter (Some w) v large is none = absurd (omega arith)
 
--- what is not 0 in the table of letters is the byte that the letter stands for, and another letter stands for none
+-- an entry other than 0 in the table of letters is the byte that the letter stands for, and a letter with entry 0
+-- stands for none
 pub letter_is : (c : ℕ) → c < 256 → (get_or LETTERS c 0 ≡ 0 → ⊥) → Some (get_or LETTERS c 0) ≡ letter_value c
 letter_is c h other = some_letter (letter_value c) (get_or LETTERS c 0) (letter_at c h) other
 

@@ -16,7 +16,7 @@ abbrev pub bytes_fed : ℕ → Event → List ℕ
 bytes_fed number (Bytes connection bytes) = if connection == number then bytes else []
 bytes_fed number (Turn connection moment) = []
 
--- a connection's text: all that the events feed to it
+-- a connection's text: all bytes that the events feed to it
 abbrev pub text_fed : ℕ → List Event → List ℕ
 text_fed number events = flat_map (λ event. bytes_fed number event) events
 
@@ -24,8 +24,8 @@ text_fed number events = flat_map (λ event. bytes_fed number event) events
 abbrev pub turns_by : ℕ → List (ℕ × ℕ) → ℕ
 turns_by number turns = count_by (λ turn. turn.0 == number) turns
 
--- whether a turn of the connection of a number finds a request or fault, where these events came before it and these
--- turns were served: its text so far has one more than were taken of it
+-- whether a turn of the connection of a number finds a request or fault, after these events, and after these turns
+-- were served: its text so far has one more than were taken of it
 abbrev pub finds_one : ℕ → List Event → List (ℕ × ℕ) → Bool
 finds_one number before served = nat_lt (turns_by number served) (length (requests_of (text_fed number before)))
 
@@ -35,7 +35,7 @@ served_with before served (Bytes connection bytes) = served
 served_with before served (Turn connection moment) =
     if finds_one connection before served then served ++ (connection, moment) ∷ [] else served
 
--- the turns that are served at the end, where these events are still to come
+-- the turns that are served at the end, when these events remain
 abbrev pub turns_served : List Event → List (ℕ × ℕ) → List Event → List (ℕ × ℕ)
 turns_served before served [] = served
 turns_served before served (event ∷ events) = turns_served (before ++ event ∷ []) (served_with before served event) events
@@ -44,9 +44,9 @@ turns_served before served (event ∷ events) = turns_served (before ++ event �
 abbrev pub cache_of : ScriptSeen → CacheState
 cache_of script = opening_cache script.budget script.items 0
 
--- Outputs, one for each connection, answer a script: there is one legal history of the server. Of each connection it
--- takes the first requests and faults of that connection's text, in order; it has one entry for each turn line that
--- finds one, in the order of the lines, at that line's moment, and no others; the outputs are its answers.
+-- Outputs, one for each connection, answer a script: one legal history of the server has them. Of each connection it
+-- takes the first requests and faults of that connection's text, in order. It has one entry for each turn line that
+-- finds one, in the order of the lines, at that line's moment, and no others. The outputs are its answers.
 pub record Answers (script : ScriptSeen) (outputs : List (List ℕ)) : Type 0 where
   pub history : List Entry
   pub legal : IsLegalHistory (cache_of script) history
@@ -54,11 +54,11 @@ pub record Answers (script : ScriptSeen) (outputs : List (List ℕ)) : Type 0 wh
   pub turns : turns_of history ≡ turns_served [] [] script.events
   pub answered : outputs ≡ map (λ number. answers_to number (cache_of script) history) (range_with_len 0 script.connections)
 
--- which entries of a history were refused memory
+-- whether memory was refused, for each entry of a history
 abbrev pub refusals_of : List Entry → List Bool
 refusals_of entries = map (λ e. e.refused) entries
 
--- outputs answer a script, and memory was refused to nothing
+-- outputs answer a script, and memory was refused to no store
 pub record AnswersUnrefused (script : ScriptSeen) (outputs : List (List ℕ)) : Type 0 where
   pub answers : Answers script outputs
   pub granted : All (λ refused. refused ≡ false) (refusals_of answers.history)
@@ -69,6 +69,6 @@ pub record HasPart (bytes part : List ℕ) : Type 0 where
   pub after : List ℕ
   pub is : bytes ≡ before ++ part ++ after
 
--- no output has the line for want of memory as a part
+-- no output has the out-of-memory line as a part
 abbrev pub TellNoRefusal : List (List ℕ) → Type 0
 TellNoRefusal outputs = All (λ bytes. ¬ HasPart bytes (fault_line OutOfMemory)) outputs

@@ -1,4 +1,4 @@
--- Escapes: how any bytes are in a line of printable ones. Source: this project's own.
+-- Escapes: how arbitrary bytes are written in a line of printable ones. Source: this project's own.
 use Rattle.std.specs.Prelude.{◌≡◌, ℕ, ◌+◌, ◌-◌, ◌*◌, ◌/◌, ◌%◌, ◌==◌, ◌&&◌, Bool, not, nat_lt, nat_le, List, [], ◌∷◌, ◌++◌, Option, Some, None, is_some, codes, decimal, if◌then◌else◌}
 use Rattle.std.specs.List.{flat_map, enumerate_from}
 use Rattle.std.specs.Option.{option_map, option_map_or}
@@ -7,8 +7,8 @@ use Rattle.std.specs.Option.{option_map, option_map_or}
 abbrev pub hex_digit : ℕ → ℕ
 hex_digit n = if nat_lt n 10 then 48 + n else 87 + n
 
--- a byte from 32 to 126 stands for itself, but for the backslash; 13 and 10 have letters; another has
--- two digits
+-- a byte from 32 to 126 stands for itself, except the backslash; 13 and 10 have letters; any other has two
+-- digits
 unfoldable pub escape_of : ℕ → List ℕ
 escape_of b =
     if b == 92 then codes "\\\\"
@@ -25,7 +25,7 @@ is_plain b = nat_le 32 b && nat_le b 126 && not (b == 92)
 abbrev pub escaped : List ℕ → List ℕ
 escaped bytes = flat_map escape_of bytes
 
--- a line that says of something of a name and a number what its bytes are
+-- a line with the bytes of a thing that has a name and a number
 abbrev pub named_line : List ℕ → ℕ → List ℕ → List ℕ
 named_line name number bytes = name ++ codes " " ++ decimal number ++ codes ": " ++ escaped bytes ++ codes "\n"
 
@@ -53,7 +53,7 @@ hex_value c =
 unfoldable pub letter_value : ℕ → Option ℕ
 letter_value c = if c == 92 then Some 92 else if c == 114 then Some 13 else if c == 110 then Some 10 else None
 
--- where a reader of escapes is
+-- the state of a reader of escapes
 pub data Place : Type 0 where
   -- after a whole byte, or at the beginning
   Between : Place
@@ -63,10 +63,10 @@ pub data Place : Type 0 where
   NoDigit : Place
   -- after a backslash, x and a digit of this value
   OneDigit : ℕ → Place
-  -- after what is no escape
+  -- after bytes that are no escape
   Lost : Place
 
--- where it is after one byte more
+-- its state after one more byte
 abbrev pub place_after : Place → ℕ → Place
 place_after Between b = if b == 92 then Backslash else Between
 place_after Backslash b = if b == 120 then NoDigit else if is_some (letter_value b) then Between else Lost
@@ -74,7 +74,7 @@ place_after NoDigit b = option_map_or OneDigit (hex_value b) Lost
 place_after (OneDigit high) b = if is_some (hex_value b) then Between else Lost
 place_after Lost b = Lost
 
--- what that byte completes
+-- the byte that is completed by it
 abbrev pub completed : Place → ℕ → List ℕ
 completed Between b = if b == 92 then [] else b ∷ []
 completed Backslash b = option_map_or (λ c. c ∷ []) (letter_value b) []
@@ -87,7 +87,7 @@ abbrev pub at_end : Place → Option (List ℕ)
 at_end Between = Some []
 at_end place = None
 
--- what a text stands for, from a place on
+-- the bytes that a text stands for, from a state on
 unfoldable pub text_from : Place → List ℕ → Option (List ℕ)
 text_from place [] = at_end place
 text_from place (b ∷ bs) = option_map (λ text. completed place b ++ text) (text_from (place_after place b) bs)
@@ -96,14 +96,15 @@ text_from place (b ∷ bs) = option_map (λ text. completed place b ++ text) (te
 abbrev pub text_of : List ℕ → Option (List ℕ)
 text_of text = text_from Between text
 
--- a text after a place stands for a byte first, and then for what the rest stands for
+-- a text read from a state on stands for a byte first, and then for the bytes of the rest
 abbrev pub GivesByte : Place → List ℕ → ℕ → List ℕ → Type 0
 GivesByte place text byte rest = text_from place text ≡ option_map (λ bytes. byte ∷ bytes) (text_of rest)
 
--- a text after a place has no bytes that it stands for
+-- a text read from a state on stands for no bytes
 abbrev pub GivesNoByte : Place → List ℕ → Type 0
 GivesNoByte place text = text_from place text ≡ None
 
--- some bytes, and then what a text stands for after a place, are other bytes, and then what the rest stands for
+-- some bytes, followed by the bytes that a text stands for from a state on, are other bytes, followed by the
+-- bytes of the rest
 abbrev pub ReadsFront : List ℕ → Place → List ℕ → List ℕ → List ℕ → Type 0
 ReadsFront before place text after rest = option_map (λ more. before ++ more) (text_from place text) ≡ option_map (λ more. after ++ more) (text_of rest)

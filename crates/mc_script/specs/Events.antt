@@ -1,4 +1,4 @@
--- What the events of a script keep to. Source: this project's own.
+-- What holds of the events of a script. Source: this project's own.
 use Rattle.std.specs.Prelude.{ℕ, ◌<◌, ◌^◌}
 use Rattle.mc_script.specs.declared.events.Event.{Event}
 use Rattle.mc_script.specs.declared.events.Event.TheVariants.{Bytes, Turn}
@@ -8,11 +8,11 @@ abbrev pub number_of : Event → ℕ
 number_of (Bytes connection bytes) = connection
 number_of (Turn connection moment) = connection
 
--- the moment of a turn; bytes come at none
+-- the moment of a turn; bytes have none
 abbrev pub moment_of : Event → ℕ
 moment_of (Bytes connection bytes) = 0
 moment_of (Turn connection moment) = moment
 
--- the connection is one of so many, and the moment is below 2^63
+-- the connection is below this number, and the moment is below 2^63
 abbrev pub IsEventOf : ℕ → Event → Type 0
 IsEventOf connections event = (number_of event < connections) × (moment_of event < 2 ^ 63)

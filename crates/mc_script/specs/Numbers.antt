@@ -6,7 +6,7 @@ use Rattle.mc_text.specs.Numbers.{read_u64, number}
 abbrev pub limit_of : ℕ → List ℕ → Option ℕ
 limit_of most word = option_and_then (λ n. if nat_le 1 n && nat_le n most then Some n else None) (read_u64 word)
 
--- the number of something that is there, where so many are, counted from 0
+-- the number of one of this many things, counted from 0
 abbrev pub place_of : ℕ → List ℕ → Option ℕ
 place_of count word = option_and_then (λ n. if nat_lt n count then Some n else None) (read_u64 word)
 

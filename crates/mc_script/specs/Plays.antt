@@ -8,7 +8,8 @@ use Rattle.mc_server.specs.declared.turns.Turn.{Turn as Turned}
 use Rattle.mc_script.specs.declared.events.Event.{Event}
 use Rattle.mc_script.specs.declared.events.Event.TheVariants.{Bytes, Turn}
 
--- a server over a cache that has admitted so many connections, of which nothing has come
+-- a server over a cache that has admitted this number of connections, from which no byte has
+-- arrived
 abbrev pub opened : CacheState → ℕ → ServerState
 opened cache count = record {
   cache = cache;

@@ -9,7 +9,8 @@ use Rattle.mc_script.specs.declared.errors.SimError.TheVariants.{BadLine, Stream
 abbrev pub script_seen : Script → ScriptSeen
 script_seen s = record { connections = s.connections; budget = s.budget; items = s.items; events = s.events.items }
 
--- why reading stopped: at the first bad line, or for want of memory, which can come at any time
+-- why reading stopped: at the first bad line, or since memory was refused, which may happen at any
+-- time
 abbrev pub Explains : {Y : Type 0} → SimError → Result Y ℕ → Type 0
 Explains (BadLine n) read = read ≡ Err n
 Explains (Stream side) read = ⊥

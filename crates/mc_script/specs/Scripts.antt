@@ -8,7 +8,7 @@ use Rattle.mc_script.specs.Numbers.{limit_of, moment_read, place_of}
 use Rattle.mc_script.specs.declared.events.Event.{Event}
 use Rattle.mc_script.specs.declared.events.Event.TheVariants.{Bytes, Turn}
 
--- what a script says
+-- the content of a script
 pub record ScriptSeen : Type 0 where
   pub connections : ℕ
   pub budget : ℕ
@@ -30,14 +30,14 @@ server_of line = do
   items ← limit_of (2 ^ 24) limits.1
   if bytes_eq command.0 (codes "server") then Some (connections, budget, items) else None
 
--- what a command says, by its name, the connection's number, and what follows that
+-- the event of a command, by its name, the connection's number, and the text after that
 unfoldable pub event_named : List ℕ → ℕ → List ℕ → Option Event
 event_named name connection rest =
     if bytes_eq name (codes "bytes") then option_map (λ bytes. Bytes connection bytes) (text_of rest)
     else if bytes_eq name (codes "turn") then option_map (λ moment. Turn connection moment) (moment_read rest)
     else None
 
--- the event of a line `bytes <connection> <text>` or `turn <connection> <moment>`, where so many connections are there
+-- the event of a line `bytes <connection> <text>` or `turn <connection> <moment>`, if there are this many connections
 unfoldable pub event_of : ℕ → List ℕ → Option Event
 event_of connections line = do
   command ← cut_at_space line
@@ -66,7 +66,7 @@ abbrev pub with_server : ℕ → Option (ℕ × ℕ × ℕ) → List (ℕ × Lis
 with_server n None lines = Err n
 with_server n (Some server) lines = with_events server (events_of server.0 lines)
 
--- the script of lines: the first one is the server's, and no line at all is bad at line 1
+-- the script of lines: the first one is the server's, and if there is none, line 1 is bad
 unfoldable pub script_of_lines : List (ℕ × List ℕ) → Result ScriptSeen ℕ
 script_of_lines [] = Err 1
 script_of_lines (line ∷ lines) = with_server line.0 (server_of line.1) lines

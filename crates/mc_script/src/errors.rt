@@ -1,4 +1,4 @@
-//! Errors.
+//! Why a script was not run to its end.
 ghost use Rattle.std.specs.Prelude.{◌≡◌};
 ghost use Rattle.mc_script.specs.declared.errors.SimError.TheVariants.{Memory};
 ghost use Rattle.mc_script.specs.Statuses.{status_of};
@@ -15,7 +15,7 @@ pub enum SimError {
     /// 2: a read failed, or the input did not end; or a write failed.
     #[error("input or output failed")]
     Stream(Side),
-    /// 3: no memory.
+    /// 3: memory was refused.
     #[error("out of memory")]
     Memory,
 }

@@ -1,17 +1,18 @@
-//! Tables of the escape of each byte, of what a letter after a backslash stands for, and of the value of each hexadecimal digit.
+//! Tables of the escape of each byte, of the byte that a letter after a backslash stands for, and of the value of each
+//! hexadecimal digit.
 ghost use Rattle.std.specs.Prelude.{◌≡◌, ◌≤◌, length, take};
 ghost use Rattle.mc_script.specs.Escapes.{escape_of};
 
 /// The most bytes that the escape of a byte has.
 pub(crate) const WIDEST: usize = 4;
 
-/// What stands for the byte of a letter that is not among those after a backslash.
+/// The entry of a letter that stands for no byte after a backslash.
 pub(crate) const NO_LETTER: u8 = 0;
 
-/// What stands for the value of a byte that is no hexadecimal digit.
+/// The entry of a byte that is no hexadecimal digit.
 pub(crate) const NO_DIGIT: u8 = 16;
 
-/// The four bytes of the table that begin with a byte's escape, and how many the escape has.
+/// The four bytes of the table that begin with a byte's escape, and the length of the escape.
 #[inline(always)]
 pub(crate) fn escape_of(byte: u8) -> (&'static [u8], usize)
     ensures escape { take result.1 result.0.now ≡ escape_of byte }

@@ -1,4 +1,4 @@
-//! Escapes: how any bytes are in a line of printable ones.
+//! Escapes: how arbitrary bytes are written in a line of printable ones.
 ghost use Rattle.std.specs.Prelude.{◌≡◌, ◌<◌, ◌≤◌, ◌+◌, ◌==◌, ◌&&◌, ◌++◌, ◌∷◌, ℕ, nat_le, List, Some, None, length, is_some, true, IfOk, IfSome, OnOk, OnErr, MatchOption, All, [], false, take, vec_len};
 ghost use Rattle.std.specs.List.{list_all, position_or_len, prefix_len};
 ghost use Rattle.std.specs.Option.{option_map};
@@ -13,15 +13,14 @@ use std::simd::prelude::*;
 /// How many bytes are tested together, or escaped.
 const BLOCK: usize = 16;
 
-/// The most bytes that their escapes have.
+/// The most bytes that the escapes of a block have.
 const ROOM: usize = WIDEST * BLOCK;
 
-/// Fewer bytes than this are escaped one by one, which begins sooner.
+/// Fewer bytes than this are escaped one by one, since that starts sooner.
 const FEW: usize = 4;
 
-/// Puts bytes at the end of a text, each escaped: 32 to 126 as they are but for the backslash, which is doubled, 13
-/// and 10 as `\r` and `\n`, and any other as `\x` and two small hexadecimal digits. An error leaves the text as it
-/// was.
+/// Appends bytes to a text, each escaped. A byte from 32 to 126 is appended as it is, except the backslash, which is doubled. 13 and 10
+/// become `\r` and `\n`, and any other `\x` and two small hexadecimal digits. An error leaves the text as it was.
 pub fn push_escaped(bytes: &[u8], out: &mut Vec<u8>) -> Result<(), AllocError>
     ensures escaped { OnOk result (out.new.items ≡ out.old.items ++ escaped bytes.now) }
     ensures unchanged { OnErr result (out.new.items ≡ out.old.items) }
@@ -34,8 +33,7 @@ pub fn push_escaped(bytes: &[u8], out: &mut Vec<u8>) -> Result<(), AllocError>
     pushed
 }
 
-/// Puts the line at the end of a text that says what a client was sent: `client <client>: ` and the bytes, escaped.
-/// An error leaves the text as it was.
+/// Appends a line that says what a client was sent: `client <client>: ` and the bytes, escaped. An error leaves the text as it was.
 pub fn push_client_line(client: u64, bytes: &[u8], out: &mut Vec<u8>) -> Result<(), AllocError>
     ensures line { OnOk result (out.new.items ≡ out.old.items ++ client_line client bytes.now) }
     ensures unchanged { OnErr result (out.new.items ≡ out.old.items) }
@@ -43,7 +41,7 @@ pub fn push_client_line(client: u64, bytes: &[u8], out: &mut Vec<u8>) -> Result<
     push_named_line(b"client", client, bytes, out)
 }
 
-/// Puts a line at the end of a text: `<name> <number>: ` and some bytes, escaped. An error leaves the text as it was.
+/// Appends a line to a text: `<name> <number>: ` and some bytes, escaped. An error leaves the text as it was.
 pub fn push_named_line(
     name: &[u8],
     number: u64,
@@ -61,9 +59,9 @@ pub fn push_named_line(
     pushed
 }
 
-/// The bytes that an escaped text stands for: `\r`, `\n`, `\\` and `\x` with two hexadecimal digits, small or
-/// capital, are escapes, and any other byte stands for itself. Nothing where a backslash begins no escape, also where memory for the
-/// bytes is refused: an error says that the text stands for some.
+/// The bytes that an escaped text stands for: `\r`, `\n`, `\\` and `\x` with two hexadecimal digits, small or capital, are escapes, and any
+/// other byte stands for itself. It is `None` if a backslash begins no escape, also if memory for the bytes is refused: an error says that
+/// the text stands for some.
 pub fn read_escaped(alloc: Global, text: &[u8]) -> Result<Option<Vec<u8>>, AllocError>
     ensures read { IfOk result (λ found. option_map (λ bytes. bytes.items) found ≡ text_of text.now) }
     ensures memory { OnErr result (is_some (text_of text.now) ≡ true) }
@@ -89,12 +87,12 @@ pub(crate) fn is_escaped(text: &[u8]) -> bool
     true
 }
 
-/// What was escaped is read again.
+/// Escaped bytes are read back as they were.
 pub fn escaped_is_read_again()
     ensures { (bytes : List ℕ) → All (λ b. b < 256) bytes → text_of (escaped bytes) ≡ Some bytes }
 {}
 
-/// The same as `read_escaped`, with no word on an error.
+/// Reads as `read_escaped` does, but an error says nothing about the text.
 fn read_bytes(alloc: Global, text: &[u8]) -> Result<Option<Vec<u8>>, AllocError>
     ensures { IfOk result (λ found. option_map (λ bytes. bytes.items) found ≡ text_of text.now) }
 {
@@ -121,9 +119,9 @@ fn push_each_escaped(bytes: &[u8], out: &mut Vec<u8>) -> Result<(), AllocError>
     Ok(())
 }
 
-/// Puts what a text begins with at the end of another, escaped: the blocks in front whose bytes stand for themselves, or else the first
-/// bytes, as many as a block has, but one where few are left. The answer is how many bytes these are. An error leaves the other text as it
-/// was.
+/// Appends the front of a text to another, escaped. The front is the blocks at the beginning whose bytes all stand for themselves. If there
+/// are none, it is the first block, or one byte if few are left. The answer is the number of these bytes. An error leaves the other text as
+/// it was.
 fn push_front(bytes: &[u8], out: &mut Vec<u8>) -> Result<usize, AllocError>
     requires { 0 < length bytes.now }
     ensures escaped { IfOk result (λ count. out.new.items ≡ out.old.items ++ escaped (take count bytes.now)) }
@@ -144,8 +142,8 @@ fn push_front(bytes: &[u8], out: &mut Vec<u8>) -> Result<usize, AllocError>
     Ok(count)
 }
 
-/// Puts the first bytes of a text, as many as a block has or all of them, at the end of another, escaped one by one. The answer is how many
-/// they are. An error leaves the other text as it was.
+/// Appends the first bytes of a text, a block of them or all if there are fewer, to another, escaped one by one. The answer is their
+/// number. An error leaves the other text as it was.
 fn push_block(bytes: &[u8], out: &mut Vec<u8>) -> Result<usize, AllocError>
     requires { 0 < length bytes.now }
     ensures escaped { IfOk result (λ count. out.new.items ≡ out.old.items ++ escaped (take count bytes.now)) }
@@ -164,8 +162,8 @@ fn push_block(bytes: &[u8], out: &mut Vec<u8>) -> Result<usize, AllocError>
     Ok(block.len())
 }
 
-/// Writes the escape of a byte at a place, and says where it ends. What it writes after that, up to four bytes from the place, is of no
-/// meaning.
+/// Writes the escape of a byte at a place, and returns where it ends. The bytes that it writes after that, up to four from the place, have
+/// no meaning.
 #[inline(always)]
 fn put_escape(byte: u8, room: &mut [u8; ROOM], at: usize) -> usize
     requires { at + WIDEST ≤ ROOM }
@@ -177,7 +175,7 @@ fn put_escape(byte: u8, room: &mut [u8; ROOM], at: usize) -> usize
     at + size
 }
 
-/// Puts the escape of a byte at the end of a text. An error leaves the text as it was.
+/// Appends the escape of a byte to a text. An error leaves the text as it was.
 fn push_escape(byte: u8, out: &mut Vec<u8>) -> Result<(), AllocError>
     ensures escape { OnOk result (out.new.items ≡ out.old.items ++ escape_of byte) }
     ensures unchanged { OnErr result (out.new.items ≡ out.old.items) }
@@ -194,7 +192,7 @@ fn push_escape(byte: u8, out: &mut Vec<u8>) -> Result<(), AllocError>
     out.extend_from_slice(escape)
 }
 
-/// How many bytes are in the blocks in front whose bytes all stand for themselves.
+/// The number of bytes in the blocks at the beginning whose bytes all stand for themselves.
 fn plain_blocks(bytes: &[u8]) -> usize
     ensures { result ≤ prefix_len is_plain bytes.now }
 {
@@ -217,7 +215,7 @@ fn begins_with_plain_block(bytes: &[u8]) -> bool
     are_plain(block)
 }
 
-/// Whether each byte stands for itself. All of them are looked at, so that the processor tests many at once.
+/// Whether each byte stands for itself. The loop reads all of them, so that the processor tests many at once.
 fn are_plain(bytes: &[u8]) -> bool
     ensures { result ≡ list_all is_plain bytes.now }
 {
@@ -248,8 +246,8 @@ fn push_parts(name: &[u8], number: u64, bytes: &[u8], out: &mut Vec<u8>) -> Resu
     out.extend_from_slice(b"\n")
 }
 
-/// Puts what a text begins with at the end of some bytes: its bytes up to the first backslash, and what the escape there
-/// stands for. The answer is the text after that, or nothing where the backslash begins no escape.
+/// Appends the front of a text to some bytes: its bytes up to the first backslash, and the byte of the escape there. The answer is the text
+/// after that, or `None` if the backslash begins no escape.
 fn read_front<'a>(text: &'a [u8], bytes: &mut Vec<u8>) -> Result<Option<&'a [u8]>, AllocError>
     requires { 0 < length text.now }
     ensures read { IfOk result (λ found. MatchOption found (GivesNoByte Between text.now)
@@ -267,10 +265,10 @@ fn read_front<'a>(text: &'a [u8], bytes: &mut Vec<u8>) -> Result<Option<&'a [u8]
     Ok(Some(after))
 }
 
-/// Puts the bytes of a text up to its first backslash at the end of some bytes. The answer is the text from there on. A run that ends in
-/// the first block is put together with what follows it there, which is then cut off: a copy of as many bytes as a block has is one move.
-/// So it asks for room for at most 15 bytes more than the run has, and never for more than the text has, which `read_escaped` asks for at
-/// its beginning. One byte and two are put sooner by themselves.
+/// Appends the bytes of a text up to its first backslash to some bytes. The answer is the text from there on. If a run ends in the first
+/// block, the whole block is appended, which is one move, and the bytes after the run are cut off. So it asks for room for at most 15 bytes
+/// more than the run has. It never asks for more than the text has, which `read_escaped` asks for at its beginning. One or two bytes are
+/// faster to append by themselves.
 fn read_run<'a>(text: &'a [u8], bytes: &mut Vec<u8>) -> Result<&'a [u8], AllocError>
     ensures read { IfOk result (λ rest. ReadsFront bytes.old.items Between text.now bytes.new.items rest.now) }
     ensures over { IfOk result (λ rest. position_or_len (λ b. b == 92) rest.now ≡ 0) }
@@ -304,7 +302,7 @@ fn read_run<'a>(text: &'a [u8], bytes: &mut Vec<u8>) -> Result<&'a [u8], AllocEr
     Ok(rest)
 }
 
-/// The same of a short text, byte by byte.
+/// Appends a run as `read_run` does, byte by byte, of a short text.
 fn read_short_run<'a>(text: &'a [u8], bytes: &mut Vec<u8>) -> Result<&'a [u8], AllocError>
     ensures read { IfOk result (λ rest. ReadsFront bytes.old.items Between text.now bytes.new.items rest.now) }
     ensures over { IfOk result (λ rest. position_or_len (λ b. b == 92) rest.now ≡ 0) }
@@ -318,7 +316,7 @@ fn read_short_run<'a>(text: &'a [u8], bytes: &mut Vec<u8>) -> Result<&'a [u8], A
     Ok(rest)
 }
 
-/// The same of a run of any length.
+/// Appends a run as `read_run` does, of any length.
 fn read_long_run<'a>(text: &'a [u8], bytes: &mut Vec<u8>) -> Result<&'a [u8], AllocError>
     ensures read { IfOk result (λ rest. ReadsFront bytes.old.items Between text.now bytes.new.items rest.now) }
     ensures over { IfOk result (λ rest. position_or_len (λ b. b == 92) rest.now ≡ 0) }
@@ -363,7 +361,7 @@ fn run_length(text: &[u8]) -> usize
     memchr(b'\\', text).unwrap_or(text.len())
 }
 
-/// What follows the first byte that a text stands for.
+/// The text after the first byte that a text stands for.
 #[tactic(auto, unfolding(crate::specs::Escapes::text_from))]
 fn past_byte(text: &[u8]) -> Option<&[u8]>
     requires { 0 < length text.now }
@@ -378,7 +376,7 @@ fn past_byte(text: &[u8]) -> Option<&[u8]>
     Some(after)
 }
 
-/// The byte of what follows a backslash, and the text after it.
+/// The byte of the text after a backslash, and the text after that byte.
 #[tactic(auto, using(crate::proofs::EscapeLemmas::after_backslash), unfolding(crate::specs::Escapes::text_from))]
 fn byte_of_escape(text: &[u8]) -> Option<(u8, &[u8])>
     ensures byte { MatchOption result (GivesNoByte Backslash text.now) (λ p. GivesByte Backslash text.now p.0 p.1.now) }

@@ -1,11 +1,11 @@
-//! What a script says.
+//! The events of a script.
 ghost use Rattle.std.specs.Prelude.{All, ◌≤◌};
 ghost use Rattle.mc_cache.specs.CacheState.{IsWithinBounds};
 ghost use Rattle.mc_script.specs.Events.{IsEventOf};
 
 use mc_text::Block;
 
-/// A script: a server, and what comes to it.
+/// A script: a server, and its events.
 #[derive(Debug, Drop)]
 pub struct Script {
     /// How many connections the server has: 1 to 1024, of the numbers from 0 on.
@@ -14,17 +14,17 @@ pub struct Script {
     pub budget: u64,
     /// How many items the server has room for: 1 to 16,777,216.
     pub items: usize,
-    /// What comes to the server, in order.
+    /// The events of the server, in order.
     pub events: Vec<Event>,
     ghost few: { connections ≤ 1024 },
     ghost bounds: { IsWithinBounds budget items },
     ghost all: { All (IsEventOf connections) events.items },
 }
 
-/// What comes to a server.
+/// An event of a server.
 #[derive(Debug, Drop)]
 pub enum Event {
-    /// The next bytes of a client.
+    /// The next bytes of a client arrive.
     Bytes {
         /// The number of the client's connection.
         connection: u64,

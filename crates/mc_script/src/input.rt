@@ -1,18 +1,18 @@
-//! All that a reader gives.
+//! All bytes of a reader.
 ghost use Rattle.std.specs.Prelude.{◌≡◌, ℕ, IfOk, IfSome, IsErrOf};
 
 use crate::errors::{Side, SimError};
 use std::alloc::Global;
 use std::io::Read;
 
-/// How many bytes are asked for at a time.
+/// How many bytes each read asks for.
 const PIECE_LEN: usize = 4096;
 
 /// The most reads.
 const MAX_READS: u64 = 16_777_216;
 
-/// All that a reader gives, to its end, which comes by the 16,777,216th read. The error is `Stream(Input)` where a read
-/// fails or the end does not come, and `Memory` where the bytes cannot be kept.
+/// All bytes of a reader, to its end, which must be reached by the 16,777,216th read. The error is `Stream(Input)` if a
+/// read fails or the end is not reached, and `Memory` if the bytes cannot be kept.
 pub fn read_input<R: Read>(alloc: Global, reader: &mut R) -> Result<Vec<u8>, SimError>
     ensures input { IfOk result (λ input. IfSome (R.remaining reader.old) (λ bytes. input.items ≡ bytes)) }
     ensures never_bad_line { (line : ℕ) → ¬ IsErrOf result (SimError.BadLine line) }

@@ -1,23 +1,23 @@
-//! Laws of what answers a script. The functions do nothing: their contracts are the laws.
+//! Laws of the outputs that answer a script. The functions do nothing: their contracts are the laws.
 ghost use Rattle.std.specs.Prelude.{◌≡◌, ℕ, List, All, false};
 ghost use Rattle.mc_script.specs.Answers.{Answers, AnswersUnrefused, TellNoRefusal, refusals_of};
 ghost use Rattle.mc_script.specs.Events.{IsEventOf};
 ghost use Rattle.mc_script.specs.Scripts.{ScriptSeen};
 
-/// Once it is said which stores were refused memory, at most one list of outputs answers a script.
+/// For given refusals of memory, at most one list of outputs answers a script.
 pub fn one_output()
     ensures { (script : ScriptSeen) (a b : List (List ℕ)) (x : Answers script a) (y : Answers script b)
         → refusals_of x.history ≡ refusals_of y.history → a ≡ b }
 {}
 
-/// For every script some outputs answer it with memory refused to nothing.
+/// For every script some outputs answer it with memory refused to no store.
 pub fn some_output()
     ensures { (script : ScriptSeen) → (outputs : List (List ℕ)) × AnswersUnrefused script outputs }
 {}
 
-/// Of outputs that answer a script, those alone are without the line for want of memory: where no output has that line
-/// as a part, memory was refused to no store, so the outputs are those of [`some_output`]. The events are of connections
-/// that the script has, as those of every script that is read.
+/// Outputs that answer a script contain the out-of-memory line if memory was refused to a store. So if no output has
+/// that line as a part, memory was refused to no store, and the outputs are those of [`some_output`]. The events are of
+/// connections that the script has, as those of every script that is read.
 pub fn only_output()
     ensures granted { (script : ScriptSeen) → All (IsEventOf script.connections) script.events
         → (outputs : List (List ℕ)) → (x : Answers script outputs) → TellNoRefusal outputs

@@ -1,15 +1,15 @@
 //! Scripts of events for a server: read, checked, run and printed.
 //!
-//! [`text_of_script`] goes from a script's bytes to what is printed for it: its contract is the main theorem. A program calls it
-//! between [`read_input`], which takes all that a reader gives, and [`write_text`]. A caller that wants the parts meets
+//! [`text_of_script`] goes from a script's bytes to its printed text: its contract is the main theorem. A program calls it
+//! between [`read_input`], which reads all bytes of a reader, and [`write_text`]. A caller that wants the parts calls
 //! [`read_script`] first, which reads a [`Script`], and then [`push_client_line`], which prints what a client was sent.
-//! [`push_escaped`] and [`read_escaped`] are the two directions of the escapes that scripts and printed lines have.
-//! What a reader and a printer of other scripts need is here too: [`lines_of`], [`cut_at_space`], [`read_limit`],
-//! [`read_place`], [`read_moment`], [`hex_value`] and [`push_named_line`].
+//! [`push_escaped`] and [`read_escaped`] encode and decode the escapes of scripts and printed lines. Readers and printers of
+//! other scripts find what they need here too: [`lines_of`], [`cut_at_space`], [`read_limit`], [`read_place`], [`read_moment`],
+//! [`hex_value`] and [`push_named_line`].
 //!
 //! A script is lines of text: `server <connections> <budget> <items>`, then `bytes <connection> <text>` and
-//! `turn <connection> <moment>`; connections have the numbers from 0 on. What each means is said by the definitions in
-//! `specs/`; worked examples are in `src/rows.rt`.
+//! `turn <connection> <moment>`; connections have the numbers from 0 on. The definitions in `specs/` say what each means; worked examples are in
+//! `src/rows.rt`.
 #![tactic(auto)]
 
 mod errors;

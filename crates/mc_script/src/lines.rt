@@ -6,7 +6,8 @@ ghost use Rattle.mc_script.specs.Lines.{cut_at_space, lines_from, with_line};
 use memchr::memchr;
 use std::marker::Model;
 
-/// The lines of a text that are not empty and still to come. Contracts see the list of them, each with its number.
+/// An iterator over the lines of a text that are not empty. Contracts see the list of the remaining ones, each
+/// with its number.
 #[derive(Drop)]
 pub struct LineIter<'a> {
     rest: &'a [u8],
@@ -68,7 +69,7 @@ fn cut_line(text: &[u8]) -> (&[u8], &[u8])
     }
 }
 
-/// What is before and after the first space.
+/// The text before the first space, and the text after it.
 #[tactic(auto, unfolding(crate::specs::Lines::cut_at_space))]
 pub fn cut_at_space(text: &[u8]) -> Option<(&[u8], &[u8])>
     ensures { MatchOption result (cut_at_space text.now ≡ None)
@@ -80,7 +81,7 @@ pub fn cut_at_space(text: &[u8]) -> Option<(&[u8], &[u8])>
     Some((front, rest))
 }
 
-/// Where the first space is.
+/// The index of the first space.
 fn find_space(text: &[u8]) -> Option<usize>
     ensures place { result ≡ position (λ b. b == 32) text.now }
     ensures inside { IfSome result (λ end. end < length text.now) }

@@ -16,7 +16,7 @@ pub fn read_limit(word: &[u8], most: u64) -> Option<u64>
     read_u64(word).filter(|limit| *limit >= 1 && *limit <= most)
 }
 
-/// The number of something that is there, where so many are, counted from 0.
+/// The number of one of `count` things, counted from 0.
 pub fn read_place(word: &[u8], count: u64) -> Option<u64>
     ensures place { result ≡ place_of count word.now }
     ensures inside { IfSome result (λ place. place < count) }

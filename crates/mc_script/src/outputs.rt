@@ -16,11 +16,10 @@ use mc_item::CasCounter;
 use mc_server::{Server, ServerError};
 use std::alloc::{AllocError, Global};
 
-/// A server that has played a script: its outputs are what it sends to the clients.
+/// A server that has played a script: its outputs are the bytes that it sends to the clients.
 ///
 /// The outputs are the answers of one legal history: each turn takes the next request or fault of its connection's
-/// text, if it has come whole, and no other. Once it is said which stores were refused memory, no other outputs are
-/// right.
+/// text, if it has arrived whole, and no other. For given refusals of memory, no other outputs are right.
 pub fn played_server<S: ScriptStore>(alloc: Global, script: &Script) -> Result<Server<S>, SimError>
     ensures outputs { IfOk result (λ server. Answers (script_seen script.now) (outputs_of script.now.connections server)) }
     ensures only_memory { IsOkUnless result SimError.Memory }
@@ -32,7 +31,7 @@ pub fn played_server<S: ScriptStore>(alloc: Global, script: &Script) -> Result<S
     Ok(server)
 }
 
-/// Puts the lines at the end of a text that say what the clients of the first connections were sent.
+/// Appends lines that say what the clients of the first connections were sent.
 pub fn push_output_lines<S: ScriptStore>(
     server: &Server<S>,
     connections: u64,
@@ -46,7 +45,7 @@ pub fn push_output_lines<S: ScriptStore>(
     Ok(())
 }
 
-/// A server with an empty cache and fresh connections, as the script wants them.
+/// A server with an empty cache and new connections, as the script says.
 fn opened_server<S: ScriptStore>(alloc: Global, script: &Script) -> Result<Server<S>, SimError>
     ensures server { IfOk result (λ server. server ≡ opened (cache_of (script_seen script.now)) script.now.connections) }
     ensures only_memory { IsOkUnless result SimError.Memory }
@@ -66,7 +65,7 @@ fn opened_server<S: ScriptStore>(alloc: Global, script: &Script) -> Result<Serve
     Ok(server)
 }
 
-/// Opens one connection more.
+/// Opens one more connection.
 fn admit<S: ScriptStore>(server: &mut Server<S>) -> Result<(), SimError>
     requires room { length server.old.connections < 1024 }
     requires number { server.old.admitted < 2 ^ 64 - 1 }
@@ -76,7 +75,7 @@ fn admit<S: ScriptStore>(server: &mut Server<S>) -> Result<(), SimError>
     refused_memory_alone(server.admit().map(|_| ()))
 }
 
-/// One event.
+/// Plays one event.
 fn play<S: ScriptStore>(server: &mut Server<S>, event: &Event) -> Result<(), SimError>
     requires connection { IsSome (connection_at server.old (number_of event.now)) }
     requires moment { moment_of event.now < 2 ^ 63 }
@@ -89,7 +88,7 @@ fn play<S: ScriptStore>(server: &mut Server<S>, event: &Event) -> Result<(), Sim
     })
 }
 
-/// What a call of a server answered that could be refused memory alone.
+/// The result of a server's call that can fail only for want of memory.
 fn refused_memory_alone(called: Result<(), ServerError>) -> Result<(), SimError>
     requires connection { ¬ IsErrOf called ServerError.NoConnection }
     requires few { ¬ IsErrOf called ServerError.TooMany }

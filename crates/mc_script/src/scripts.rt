@@ -16,8 +16,8 @@ use mc_server::MAX_CONNECTIONS;
 use mc_text::Block;
 use std::alloc::{AllocError, Global};
 
-/// The script that a text is. The first bad line from the top is answered, and no line at all is a bad line 1: also where memory for the
-/// script is refused, so that `Memory` says that the text is a script.
+/// The script that a text is. The error is the first bad line from the top, and a text without lines has a bad line 1. This holds also
+/// if memory for the script is refused, so `Memory` says that the text is a script.
 pub fn read_script(alloc: Global, input: &[u8]) -> Result<Script, SimError>
     ensures script { IfOk result (λ script. script_of input.now ≡ Ok (script_seen script)) }
     ensures error { IfErr result (λ error. Explains error (script_of input.now)) }
@@ -46,7 +46,7 @@ fn bad_line(input: &[u8]) -> Option<u64>
     bad_event(connections, lines)
 }
 
-/// The number of the first line that is no event, where so many connections are there.
+/// The number of the first line that is no event of this number of connections.
 fn bad_event(connections: u64, lines: LineIter<'_>) -> Option<u64>
     ensures { result ≡ result_err (events_of connections lines.entry) }
 {
@@ -58,7 +58,7 @@ fn bad_event(connections: u64, lines: LineIter<'_>) -> Option<u64>
     None
 }
 
-/// The same as `read_script`, but that memory may be wanted before the first bad line is met.
+/// Reads as `read_script` does, but may need memory before it reaches the first bad line.
 fn read_lines(alloc: Global, input: &[u8]) -> Result<Script, SimError>
     ensures script { IfOk result (λ script. script_of input.now ≡ Ok (script_seen script)) }
     ensures error { IfErr result (λ error. Explains error (script_of input.now)) }
@@ -79,7 +79,7 @@ fn read_lines(alloc: Global, input: &[u8]) -> Result<Script, SimError>
     })
 }
 
-/// The events of lines, one each, where so many connections are there.
+/// The events of lines, one each, of this number of connections.
 fn read_events(alloc: Global, connections: u64, lines: LineIter<'_>) -> Result<Vec<Event>, SimError>
     ensures events { IfOk result (λ events. events_of connections lines.entry ≡ Ok events.items) }
     ensures all { IfOk result (λ events. All (IsEventOf connections) events.items) }
@@ -111,7 +111,7 @@ fn read_server(line: &[u8]) -> Option<(u64, u64, usize)>
     (command == b"server".as_slice()).then_some((connections, budget, items as usize))
 }
 
-/// The event of a line, where so many connections are there.
+/// The event of a line, of one of this number of connections.
 fn read_event(alloc: Global, connections: u64, line: &[u8]) -> Result<Option<Event>, AllocError>
     ensures event { IfOk result (λ event. event ≡ event_of connections line.now) }
     ensures of { IfOk result (λ event. IfSome event (λ event. IsEventOf connections event)) }
@@ -122,7 +122,7 @@ fn read_event(alloc: Global, connections: u64, line: &[u8]) -> Result<Option<Eve
     read_event_named(alloc, name, connection, rest)
 }
 
-/// Whether a line is an event, where so many connections are there.
+/// Whether a line is an event of one of this number of connections.
 fn is_event(connections: u64, line: &[u8]) -> bool
     ensures { result ≡ is_some (event_of connections line.now) }
 {
@@ -132,7 +132,7 @@ fn is_event(connections: u64, line: &[u8]) -> bool
     is_event_named(name, rest)
 }
 
-/// The command of a line, the number of its connection, where so many are there, and what follows that.
+/// The command of a line, the number of its connection, which is below `connections`, and the text after that.
 #[tactic(auto, unfolding(crate::specs::Scripts::event_of))]
 fn parts_of(connections: u64, line: &[u8]) -> Option<(&[u8], u64, &[u8])>
     ensures event { MatchOption result (event_of connections line.now ≡ None)
@@ -144,7 +144,7 @@ fn parts_of(connections: u64, line: &[u8]) -> Option<(&[u8], u64, &[u8])>
     Some((name, read_place(connection, connections)?, rest))
 }
 
-/// The event of a command, by the number of its connection and what follows that.
+/// The event of a command, by the number of its connection and the text after that.
 #[tactic(auto, unfolding(crate::specs::Scripts::event_named))]
 fn read_event_named(
     alloc: Global,
@@ -167,7 +167,7 @@ fn read_event_named(
     Ok(None)
 }
 
-/// Whether a command is an event's, by what follows the number of its connection.
+/// Whether a command is an event's, by the text after the number of its connection.
 #[tactic(auto, unfolding(crate::specs::Scripts::event_named))]
 fn is_event_named(name: &[u8], rest: &[u8]) -> bool
     ensures { (connection : ℕ) → result ≡ is_some (event_named name.now connection rest.now) }

@@ -7,7 +7,7 @@ use std::alloc::Global;
 
 /// A store that a script can be played over. A hasher's seed is fixed, so a script takes the same steps each time.
 pub trait ScriptStore: Store + Drop {
-    /// A store with no item, and room for so many and one more.
+    /// A store with no item, and room for `items` and one more.
     fn opened(alloc: Global, items: usize) -> Result<Self, SimError>
     where
         Self: Sized,

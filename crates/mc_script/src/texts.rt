@@ -12,12 +12,12 @@ use crate::stores::ScriptStore;
 use std::alloc::Global;
 use std::io::Write;
 
-/// The text that is printed for a script: a line for each of its clients, in order, with what a server over such a store that plays
-/// the script sends them. The error is the script's first bad line, or `Memory`.
+/// The text that is printed for a script: a line for each of its clients, in order. It has the bytes that a server over such a
+/// store sends the client when it plays the script. The error is the script's first bad line, or `Memory`.
 ///
-/// The contract has no condition: it holds of every input, wherever its bytes came from. Where the call succeeds, the
-/// input is a script, and the lines are those of outputs that answer it. Where it names a line, the input is no script,
-/// and that line is its first bad one. Where it answers `Memory`, the input is a script.
+/// The contract has no condition: it holds of every input, whatever its source. If the call succeeds, the input is a script, and
+/// the lines are those of outputs that answer it. If the error names a line, the input is no script, and that line is its first bad
+/// one. If the error is `Memory`, the input is a script.
 pub fn text_of_script<S: ScriptStore>(alloc: Global, input: &[u8]) -> Result<Vec<u8>, SimError>
     ensures text { IfOk result (λ text. IsTextOf input.now text.items) }
     ensures error { IfErr result (λ error. Explains error (script_of input.now)) }
@@ -30,7 +30,7 @@ pub fn text_of_script<S: ScriptStore>(alloc: Global, input: &[u8]) -> Result<Vec
     Ok(text)
 }
 
-/// Writes a text. Where that fails, a part of it may have been written.
+/// Writes a text. If that fails, a part of it may have been written.
 pub fn write_text<W: Write>(writer: &mut W, text: &[u8]) -> Result<(), SimError>
     ensures written { OnOk result (Appends (W.contents writer.old) (W.contents writer.new) text.now) }
     ensures only_output { IsOkUnless result (SimError.Stream Side.Output) }

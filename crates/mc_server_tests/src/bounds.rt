@@ -1,11 +1,11 @@
-//! What a client is answered where a server has no number or no memory left.
+//! The answers to a client of a server that has no number or no memory left.
 
 use crate::meagre::MeagreStore;
 use crate::servers::{MOMENT, Setup, WIDE, new_server};
 use mc_server::{Server, ServerError};
 use std::test::Fail;
 
-/// What a client of a new server, which is set up so, sends, and what it is answered for each piece.
+/// The pieces that a client sends to a new server with this setup, and the answer to each.
 struct Dialogue {
     name: &'static str,
     server: Setup,
@@ -49,8 +49,8 @@ const DIALOGUES: [Dialogue; 5] = [
             b"SERVER_ERROR out of memory storing object\r\nEND\r\n",
         )],
     },
-    // An item of a key and a value of one byte each costs 66 bytes, so there is room for two. A refused key leaves the
-    // items, their order and the counter. A held key is stored all the same.
+    // An item of a key and a value of one byte each costs 66 bytes, so there is room for two. A refused key leaves the items,
+    // their order and the counter. A stored key is still overwritten.
     Dialogue {
         name: "no_memory_for_a_third_key",
         server: Setup {
@@ -73,8 +73,8 @@ const DIALOGUES: [Dialogue; 5] = [
             ),
         ],
     },
-    // With room for three: of `a`, `b` and `d`, `a` was used last. A refused key leaves this order, so that what grows `d` by
-    // a byte takes `b` away.
+    // With room for three: of `a`, `b` and `d`, `a` was used last. A refused key leaves this order, so the command that makes
+    // `d` a byte longer evicts `a`.
     Dialogue {
         name: "a_refused_key_leaves_the_order",
         server: Setup {
@@ -95,7 +95,7 @@ const DIALOGUES: [Dialogue; 5] = [
     },
 ];
 
-/// As many requests as a piece has at most.
+/// The most requests of a piece.
 const REQUESTS: usize = 4;
 
 /// Whether a piece is answered so, once its requests are taken.
@@ -113,7 +113,7 @@ fn is_answered(
     Ok(is_so)
 }
 
-/// Whether a dialogue goes as it is to, on the first connection of a server.
+/// Whether a dialogue goes as expected, on the first connection of a server.
 fn goes_so(server: &mut Server<MeagreStore>, dialogue: &Dialogue) -> Result<bool, ServerError> {
     let number = server.admit()?;
     let mut is_so = true;

@@ -1,4 +1,4 @@
-//! A cache with ample memory, whose caller hands it keys and blocks of its own.
+//! A cache with ample memory, whose caller passes it keys and blocks of its own.
 
 use mc_cache::Cache;
 use mc_item::CasCounter;
@@ -49,8 +49,8 @@ const COUNTING: Counting = Counting {
     exptime: None,
 };
 
-/// The items that meta commands show, one after another on a cache that holds nothing: the number, the flags, the seconds that it
-/// has left, the marks, and the value.
+/// The items that meta commands show, in sequence on an empty cache: the number, the flags, the seconds that are left, the marks,
+/// and the value.
 const SHOWN: [(u64, u32, Option<u64>, Marks, &'static [u8]); 5] = [
     (1, 0, Some(60), Marks::Won, b""),
     (2, 5, None, Marks::Plain, b"xyz"),
@@ -59,8 +59,8 @@ const SHOWN: [(u64, u32, Option<u64>, Marks, &'static [u8]); 5] = [
     (5, 0, Some(30), Marks::Plain, b"10"),
 ];
 
-/// The command that shows the item of this number: `mg` of a key that is not held, of which an item is made, two `ms` of the same
-/// key, and two `ma` of another.
+/// The command that shows the item of this number: `mg` of a missing key, of which an item is made, two `ms` of that key, and two
+/// `ma` of another.
 fn command(alloc: Global, number: u64) -> Result<MetaCommand<Key, Block>, AllocError> {
     let update = match number {
         1 => {
@@ -96,7 +96,7 @@ fn are_shown(alloc: Global, cache: &mut Cache<ListStore>) -> Result<bool, AllocE
     Ok(true)
 }
 
-/// Whether a classic store is made, and is read then.
+/// Whether a classic store is made, and read afterwards.
 fn is_stored(alloc: Global, cache: &mut Cache<ListStore>) -> Result<bool, AllocError> {
     let own = store(alloc, StoreMode::Set, b"xyz")?;
     let is_stored = matches!(cache.step(Atom::Update(own), 0), Reply::Stored);

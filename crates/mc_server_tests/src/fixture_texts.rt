@@ -3,7 +3,7 @@
 use std::alloc::{AllocError, Global};
 use std::fmt::Display;
 
-/// A value of so many times 16 bytes, with what is before and after it.
+/// A value of this number of times 16 bytes, with the bytes before and after it.
 pub fn with_value(
     alloc: Global,
     before: &[u8],

@@ -1,4 +1,4 @@
-//! A pump whose large values go to a stream in memory from where they are.
+//! A pump that sends large values to a stream in memory from where they are stored.
 
 use crate::fixture_texts::with_value;
 use crate::meagre::MeagreStore;
@@ -11,7 +11,7 @@ use mc_server::{AnswerLimit, Server};
 use std::alloc::Global;
 use std::test::Fail;
 
-/// Pumps a connection until it is done or failed. It says which, and what the watch noted.
+/// Pumps a connection until it is done or failed. It returns which, and what the watch noted.
 fn pumped(server: &mut Server<MeagreStore>, number: u64, stream: &mut Stream) -> (Pumped, Watch) {
     let mut ended = false;
     let mut watch = Watch::new(AnswerLimit::none());
@@ -28,8 +28,8 @@ fn pumped(server: &mut Server<MeagreStore>, number: u64, stream: &mut Stream) ->
     (Pumped::Again, watch)
 }
 
-/// How the writes go, over and over, of a client who is shown a value of 500,000 bytes, with 18 bytes in front of it and 7 behind it:
-/// all is taken, a part of the line, the line, a part of the value, all but the end, a part of the end, nothing.
+/// How the writes to a client go, repeatedly, that is shown a value of 500,000 bytes, with 18 bytes before it and 7 after it. They take all,
+/// a part of the line, the line, a part of the value, all except the end, a part of the end, or nothing.
 const WRITES: [&[Call]; 11] = [
     ALL,
     &[Moves(10), Moves(usize::MAX)],
@@ -44,7 +44,7 @@ const WRITES: [&[Call]; 11] = [
     &[Blocks, Blocks, Moves(7), Interrupts, Moves(usize::MAX)],
 ];
 
-/// A miss, and three hits, of which one is of two keys.
+/// A miss, and three hits, one of which is of two keys.
 const ASKED: &[u8] = b"get b\r\nget a\r\nget a b\r\nget a\r\n";
 
 /// Whether a client whose writes go so is answered this.
@@ -57,7 +57,7 @@ fn is_answered(alloc: Global, writes: &'static [Call], answers: &[u8]) -> Result
     Ok(last == Pumped::Done && is_counted && stream.sink.taken.as_slice() == answers)
 }
 
-/// However much of it a call takes, a client is answered whole.
+/// However much each call takes, a client gets its whole answers.
 #[test]
 fn large_values_are_shown_whole(rt: HostRuntime) -> Result<(), Fail> {
     let alloc = rt.alloc();
@@ -70,8 +70,8 @@ fn large_values_are_shown_whole(rt: HostRuntime) -> Result<(), Fail> {
     Ok(())
 }
 
-/// How a value is set, how many times 16 bytes it then has, and how many writes show it twice: of 65,535 bytes it is copied, and both
-/// answers go by one; of 65,536 each goes by a write of its own.
+/// How a value is set, how many times 16 bytes it then has, and how many writes show it twice. A value of 65,535 bytes is copied, and both
+/// answers go by one write; one of 65,536 goes by a write of its own each time.
 const SIZES: [(&[u8], usize, usize); 2] = [
     (b"set a 0 0 65535\r\nfedcba987654321", 4_095, 1),
     (b"set a 0 0 65536\r\n", 4_096, 2),
@@ -101,7 +101,7 @@ fn values_are_large_from_a_size_on(rt: HostRuntime) -> Result<(), Fail> {
     Ok(())
 }
 
-/// If the stream of a client fails while it is shown a large value, that ends its connection alone, and what it had asked for before is done.
+/// If the stream of a client fails while it is shown a large value, only its connection ends, and its requests before that are done.
 #[test]
 fn a_failing_stream_ends_one_connection(rt: HostRuntime) -> Result<(), Fail> {
     let alloc = rt.alloc();

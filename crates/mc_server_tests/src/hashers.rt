@@ -1,4 +1,4 @@
-//! A hasher's secret numbers, where the machine has no random bytes.
+//! A hasher's secret numbers, on a machine without random bytes.
 
 use mc_table::SecretState;
 use std::io;

@@ -1,7 +1,7 @@
-//! What a client is answered who stores large values and is shown them, by a server some of whose calls are refused memory.
+//! The answers to a client that stores large values and is shown them, by a server some of whose calls are refused memory.
 //!
-//! Without memory in reserve a call that is refused is made again. With it no call of the server has to be. `tests/gate/refused.py` refuses
-//! each allocation in turn.
+//! Without memory in reserve a call that is refused is made again. With a reserve no call of the server has to be made again.
+//! `tests/gate/refused.py` refuses each allocation in turn.
 
 use crate::fixture_texts::with_value;
 use crate::meagre::MeagreStore;
@@ -14,13 +14,13 @@ use std::test::Fail;
 /// How many bytes a piece of a client's text has at most: less than a data block.
 const PIECE: usize = 20_000;
 
-/// How many times 16 bytes a value has: it has 65,536, so it is kept apart as it comes, and is shown from where it is.
+/// How many times 16 bytes a value has: it has 65,536, so it is kept apart as it arrives, and is sent from where it is stored.
 const SIXTEENS: usize = 4_096;
 
 /// More requests than a client here sends at a time.
 const MANY: usize = 20;
 
-/// What is before the value and behind it, if it is shown: with ample memory; then with one store refused.
+/// The bytes before the value and after it, if it is shown: with ample memory; then with one store refused.
 const SHOWN: [(&[u8], &[u8]); 3] = [
     (
         b"STORED\r\nSTORED\r\nVALUE a 0 65536\r\n",
@@ -36,7 +36,7 @@ const SHOWN: [(&[u8], &[u8]); 3] = [
     ),
 ];
 
-/// What is answered if memory is short from the first data block on, and until the reserve is whole again.
+/// The answers if memory is short from the first data block on, and until the reserve is whole again.
 const SHORT: &[u8] =
     b"SERVER_ERROR out of memory storing object\r\nSERVER_ERROR out of memory storing object\r\nEND\r\nSTORED\r\n";
 
@@ -52,7 +52,7 @@ fn keep_reserve(server: &mut Server<MeagreStore>, bytes: usize) -> Result<(), Se
     again!(server.keep_reserve(bytes))
 }
 
-/// A server with a client, for which each call may be made so many times.
+/// A server with a client, which makes each call at most this many times.
 #[derive(Drop)]
 struct Tried {
     server: Server<MeagreStore>,
@@ -86,7 +86,7 @@ impl Tried {
         self.turn_once()
     }
 
-    /// Feeds a text in pieces, and takes each request as it is whole.
+    /// Feeds a text in pieces, and takes each request as soon as it is whole.
     fn say(&mut self, text: &[u8]) -> Result<(), ServerError> {
         for piece in text.chunks(PIECE) {
             self.feed(piece)?;
@@ -100,7 +100,7 @@ impl Tried {
     }
 }
 
-/// What is answered to two `set`s of one key, a `get` of it and a `set` of another key, by a server that keeps so many bytes in reserve.
+/// The answers to two `set`s of one key, a `get` of it and a `set` of another key, by a server that keeps this number of bytes in reserve.
 fn answered(alloc: Global, reserve: usize, tries: usize) -> Result<Tried, Fail> {
     let mut server = new_server(alloc, WIDE)?;
     keep_reserve(&mut server, reserve)?;
@@ -119,7 +119,7 @@ fn answered(alloc: Global, reserve: usize, tries: usize) -> Result<Tried, Fail> 
     Ok(tried)
 }
 
-/// Whether what is answered shows the value, with at most one store refused.
+/// Whether the output shows the value, with at most one store refused.
 fn is_shown(alloc: Global, output: &[u8]) -> Result<bool, AllocError> {
     for (before, after) in SHOWN {
         if output == text(alloc, before, after)?.as_slice() {
@@ -138,7 +138,7 @@ fn large_values_are_stored_all_the_same(rt: HostRuntime) -> Result<(), Fail> {
     Ok(())
 }
 
-/// With a reserve each call is made once. If one needs the reserve, keys that are not held are refused until it is whole again.
+/// With a reserve each call is made once. If a call needs the reserve, keys that are missing are refused until it is whole again.
 #[test]
 fn a_reserve_serves_what_is_refused(rt: HostRuntime) -> Result<(), Fail> {
     let alloc = rt.alloc();

@@ -1,21 +1,19 @@
-//! Tests over all crates of a server of what no clause says and no script can bring about.
+//! Tests of a server's crates together, for what no clause says and no script can bring about.
 //!
-//! A script of `tests/examples/` plays bytes to a server. Here is what is left: numbers used up, memory refused, output
-//! taken out in parts, answers within a limit, and streams that move little or fail. What is expected is worked out by hand from the
-//! protocol's rules, and is never taken from what the program wrote.
+//! A script of `tests/examples/` plays bytes to a server. These tests cover the rest: numbers that are used up, refused memory, output that
+//! is taken in parts, answers within a limit, and streams that move little or fail. The expected answers are worked out by hand from the
+//! protocol's rules, and are never taken from what the program wrote.
 //!
 //! # Fixtures
 //!
-//! What the tests of several crates are on: a store that is refused memory, servers over it, the two sides of a stream in
-//! memory, and texts.
+//! The tests of several crates use these: a store that is refused memory, servers over it, the two sides of a stream in memory, and texts.
 //!
-//! [`new_server`] is a server as a [`Setup`] says, over a [`MeagreStore`], which has memory for so many new keys; [`server_over`] is one over
-//! another store.
-//! A [`Stream`] gives bytes and takes them; how many bytes a call of one of its [`Sides`] moves, and whether it blocks, is
-//! interrupted or fails, their [`Calls`] say. Nothing here is part of a program.
+//! [`new_server`] is a server with a [`Setup`], over a [`MeagreStore`], which has memory for a limited number of new keys; [`server_over`] is
+//! one over another store. A [`Stream`] gives bytes and takes them. The [`Calls`] of its [`Sides`] say how many bytes a call moves, and
+//! whether it blocks, is interrupted or fails. Nothing here is part of a program.
 #![tactic(auto)]
 
-/// A call, which is made again where it is refused memory.
+/// A call, which is made again if it is refused memory.
 #[macro_export]
 macro_rules! again {
     ($call:expr) => {{

@@ -7,7 +7,8 @@ use mc_server::{AnswerLimit, Server};
 use mc_store::Store;
 use std::test::Fail;
 
-/// The limit of each turn, and what it then does: a set, and a get of two keys, of which one is held with a value of 5 bytes.
+/// The limit of each turn, and what the turn then does: a set, and a get of two keys, one of which is stored with a value of
+/// 5 bytes.
 const TURNS: [(usize, Limited); 5] = [
     (1_023, Refused),
     (1_024, Turned(Took)),
@@ -16,7 +17,7 @@ const TURNS: [(usize, Limited); 5] = [
     (0, Turned(Idle)),
 ];
 
-/// Whether each turn of a connection does what it should.
+/// Whether each turn of a connection does what is expected.
 fn are_limited<S: Store + Drop>(server: &mut Server<S>, number: u64) -> Result<bool, Fail> {
     let mut are_so = true;
     for (bytes, limited) in TURNS {

@@ -6,7 +6,8 @@ use mc_store::{ListStore, Store};
 use mc_text::Key;
 use std::alloc::Global;
 
-/// A list that has memory for so many new keys. [`new_server`](crate::new_server) makes one.
+/// A list that has memory for a limited number of new keys. [`new_server`](crate::new_server) makes
+/// one.
 #[derive(Drop)]
 pub struct MeagreStore {
     list: ListStore,

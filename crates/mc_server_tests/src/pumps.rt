@@ -10,7 +10,7 @@ use mc_server::{AnswerLimit, Server};
 use std::alloc::Global;
 use std::test::Fail;
 
-/// What a client sends, and what it is answered.
+/// The bytes that a client sends, and its answers.
 struct Exchange {
     sent: &'static [u8],
     answers: &'static [u8],
@@ -27,7 +27,7 @@ const EXCHANGES: [Exchange; 2] = [
     },
 ];
 
-/// What one connection stores, and what a later one is answered of it.
+/// An exchange of one connection that stores a key, and of a later one that reads it.
 const OLDER: Exchange = Exchange {
     sent: b"set older 5 0 5\r\nfirst\r\n",
     answers: b"STORED\r\n",
@@ -53,7 +53,7 @@ fn pump_once(
     )
 }
 
-/// The same, by pieces of 2,048 bytes.
+/// Pumps a connection once, by pieces of 2,048 bytes.
 fn pump_wide(
     server: &mut Server<MeagreStore>,
     number: u64,
@@ -68,7 +68,7 @@ fn pump_wide(
     )
 }
 
-/// Pumps a connection until it is done or failed, by pieces of 2,048 bytes if it is wide, else of 16, and says which.
+/// Pumps a connection until it is done or failed, by pieces of 2,048 bytes if it is wide, otherwise of 16, and returns which.
 fn pumped_by(
     server: &mut Server<MeagreStore>,
     number: u64,
@@ -90,13 +90,13 @@ fn pumped_by(
     Pumped::Again
 }
 
-/// Pumps a connection by pieces of 16 bytes until it is done or failed, and says which.
+/// Pumps a connection by pieces of 16 bytes until it is done or failed, and returns which.
 fn pumped(server: &mut Server<MeagreStore>, number: u64, stream: &mut Stream) -> Pumped {
     pumped_by(server, number, stream, false)
 }
 
-/// Plays a text on a connection of its own, which is then closed. It gives the last pump, the calls that were made, and
-/// what the client was sent.
+/// Plays a text on a connection of its own, which is then closed. It returns the last pump, the calls that were made, and the bytes that the
+/// client was sent.
 fn play(
     alloc: Global,
     server: &mut Server<MeagreStore>,
@@ -110,7 +110,7 @@ fn play(
     Ok((last, stream.sides(), stream.sink.taken))
 }
 
-/// The calls that an exchange takes which is answered whole by a server, if it is.
+/// The calls of an exchange, if the server answers all of it.
 fn calls_of(
     alloc: Global,
     server: &mut Server<MeagreStore>,
@@ -122,9 +122,9 @@ fn calls_of(
     Ok(is_whole.then_some(made))
 }
 
-/// Whether an exchange, played to a server that holds an older key, by calls one of which ends its connection, fails, and
-/// what was sent until then is right; and whether the server then still holds the older key, and its next connection, which
-/// is sent the first exchange, is served whole.
+/// Plays an exchange to a server that stores an older key, with calls one of which ends its connection. The exchange must fail, with correct
+/// bytes sent until then. The server must still store the older key, and its next connection, which is sent the first exchange, must get all
+/// its answers. Returns whether all this holds.
 fn fails_alone(
     alloc: Global,
     exchange: &Exchange,
@@ -141,10 +141,10 @@ fn fails_alone(
     Ok(is_stored && has_failed && is_kept && is_served)
 }
 
-/// What ends a connection: whether a write does it, and how the call goes.
+/// A way to end a connection: whether a write ends it, and how the call goes.
 const ENDS: [(bool, Call); 3] = [(false, Fails), (true, Fails), (true, Moves(0))];
 
-/// Whether an exchange is answered whole, and fails alone whichever of its calls ends its connection.
+/// Whether an exchange gets all its answers, and fails alone whichever of its calls ends its connection.
 fn is_pumped(alloc: Global, exchange: &Exchange, calm: Sides) -> Result<bool, Fail> {
     let Some(made) = calls_of(alloc, &mut new_server(alloc, WIDE)?, exchange, calm)? else {
         return Ok(false);
@@ -158,9 +158,8 @@ fn is_pumped(alloc: Global, exchange: &Exchange, calm: Sides) -> Result<bool, Fa
     Ok(is_so)
 }
 
-/// Each exchange is answered whole under each pair of scripts. Then each single call of such a run ends the connection, a
-/// write alone too: what an older connection stored is still there, and the next one of the same server is answered as if
-/// nothing had been.
+/// Each exchange gets all its answers under each pair of scripts. Then each single call of such a run ends the connection, a write alone
+/// too. The items that an older connection stored stay, and the next connection of the server is answered as if nothing had happened.
 #[test]
 fn pump_never_works(rt: HostRuntime) -> Result<(), Fail> {
     for exchange in &EXCHANGES {
@@ -171,13 +170,13 @@ fn pump_never_works(rt: HostRuntime) -> Result<(), Fail> {
     Ok(())
 }
 
-/// Calls that move all there is.
+/// Calls that move all bytes.
 pub const ALL: &[Call] = &[Moves(usize::MAX)];
 
 /// 500,000 bytes.
 pub const SIXTEENS: usize = 31_250;
 
-/// A server that holds a value of 500,000 bytes.
+/// A server that stores a value of 500,000 bytes.
 pub fn server_with_value(alloc: Global) -> Result<Server<MeagreStore>, Fail> {
     let mut server = new_server(alloc, WIDE)?;
     let stored = with_value(alloc, b"set a 0 0 500000\r\n", SIXTEENS, b"\r\n")?;
@@ -201,8 +200,8 @@ fn unsent_after_a_pump(
     server.output(number).len()
 }
 
-/// A client that asks for a value of 500,000 bytes twenty times, and at first takes no byte: the ninth answer is beyond the
-/// mark, so that no tenth request is read.
+/// A client asks for a value of 500,000 bytes twenty times, and at first takes no byte. The ninth answer is beyond the high-water mark, so
+/// that no tenth request is read.
 #[test]
 fn unsent_answers_stop_reads(rt: HostRuntime) -> Result<(), Fail> {
     let alloc = rt.alloc();
@@ -257,7 +256,7 @@ fn larger_answers_fail_a_pump(rt: HostRuntime) -> Result<(), Fail> {
     Ok(())
 }
 
-/// How the reads of a large `set` and of a `get` after it go, and how many there are with the one that gives the end.
+/// How the reads of a large `set` and of a `get` after it go, and how many there are with the one that returns the end.
 struct WideReads {
     reads: &'static [Call],
     made: usize,
@@ -278,8 +277,8 @@ const WIDE_READS: [WideReads; 3] = [
     },
 ];
 
-/// Nine pieces of 2,048 bytes begin a block of 500,000, and then a read asks for as much as has come: five more are enough. However they are
-/// cut, the value is stored, and what follows is answered.
+/// Nine pieces of 2,048 bytes begin a block of 500,000. Then a read asks for as many bytes as have arrived: five more reads are enough.
+/// However they are cut, the value is stored, and the bytes after it are answered.
 #[test]
 fn a_large_block_is_read_where_it_is_kept(rt: HostRuntime) -> Result<(), Fail> {
     let alloc = rt.alloc();

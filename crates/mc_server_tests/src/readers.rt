@@ -1,4 +1,4 @@
-//! What a reader keeps of a block that is refused, and what it hands out of a large one.
+//! What a reader keeps of a refused block, and what it returns of a large one.
 
 use crate::fixture_texts::with_value;
 use mc_request_reader::{ApartReader, Next, Peek, REQUEST_LIMIT, Reader, TakenSet};
@@ -7,8 +7,8 @@ use std::test::Fail;
 /// 3,000,000 bytes.
 const SIXTEENS: usize = 187_500;
 
-/// The line of the largest block that can be told, and 3,000,000 bytes of the block in one piece: the block is refused, and is not
-/// kept until its end comes.
+/// The line of the largest block that a line can announce, and 3,000,000 bytes of the block in one piece. The block is refused,
+/// and is not kept until its end arrives.
 #[test]
 fn a_refused_block_is_not_kept(rt: HostRuntime) -> Result<(), Fail> {
     let piece = with_value(rt.alloc(), b"set a 0 0 2147483647\r\n", SIXTEENS, b"")?;
@@ -22,7 +22,7 @@ fn a_refused_block_is_not_kept(rt: HostRuntime) -> Result<(), Fail> {
 /// 6,400 bytes.
 const LARGE: usize = 400;
 
-/// A large `set` that comes in two pieces: it is handed out once, when it is whole.
+/// A large `set` that arrives in two pieces: it is returned once, when it is whole.
 #[test]
 fn a_large_set_is_handed_out(rt: HostRuntime) -> Result<(), Fail> {
     let text = with_value(rt.alloc(), b"set a 7 -1 6400 noreply\r\n", LARGE, b"\r\n")?;
@@ -50,7 +50,7 @@ fn a_large_set_is_handed_out(rt: HostRuntime) -> Result<(), Fail> {
     Ok(())
 }
 
-/// The same with another request after it in its last piece: it is lent.
+/// A large `set` whose last piece has another request after it: it is borrowed.
 #[test]
 fn a_large_set_with_a_get_after_it_is_lent(rt: HostRuntime) -> Result<(), Fail> {
     let text = with_value(rt.alloc(), b"set a 7 0 6400\r\n", LARGE, b"\r\nget a\r\n")?;

@@ -1,7 +1,7 @@
-//! What a client is answered by a server some of whose calls are refused memory.
+//! The answers to a client of a server some of whose calls are refused memory.
 //!
-//! A call that is refused memory is made again. So a client is answered as with ample memory, or as where one store was refused,
-//! whichever allocation is refused: `tests/gate/refused.py` refuses each of them in turn.
+//! A call that is refused memory is made again. So a client is answered as with ample memory, or as with one store refused, whichever
+//! allocation is refused: `tests/gate/refused.py` refuses each of them in turn.
 ghost use Rattle.std.specs.Prelude.{◌≡◌, ◌+◌, [], IfOk};
 
 use crate::servers::{Setup, WIDE, new_server, server_over};
@@ -10,7 +10,7 @@ use mc_store::{FixedHasher, LruStore, Store, StoreError, TableStore};
 use std::alloc::{AllocError, Global};
 use std::test::Fail;
 
-/// What a client of a new server, which is set up so, sends, and what it may be answered in all.
+/// The texts that a client sends to a new server with this setup, and the answers that it may get in all.
 struct Example {
     name: &'static str,
     server: Setup,
@@ -323,7 +323,7 @@ const MANY: usize = 20;
 /// A text of fewer bytes comes in single bytes too.
 const SHORT: usize = 256;
 
-/// The sizes of the pieces in which an example's texts come: whole, and, where they are short, in single bytes.
+/// The sizes of the pieces in which an example's texts arrive: whole, and, if they are short, in single bytes.
 fn pieces(example: &Example) -> &'static [usize] {
     let is_short = example
         .said
@@ -374,7 +374,7 @@ fn take_all<S: Store + Drop>(
     Ok(())
 }
 
-/// Whether a client of a new server, whose texts come in pieces of so many bytes, is answered in one of the ways that it may be answered.
+/// Whether a client of a new server, whose texts arrive in pieces of this size, gets one of the answers that it may get.
 fn is_answered<S: Store + Drop>(
     alloc: Global,
     server: &mut Server<S>,
@@ -426,7 +426,7 @@ fn new_table(alloc: Global, items: usize) -> Result<TableStore<FixedHasher>, Sto
     again!(TableStore::new(alloc, items))
 }
 
-/// The same over lru's cache, but for the examples in which a list has memory for so many keys alone.
+/// Likewise over lru's cache, except for the examples in which a list has memory for a limited number of keys.
 #[test]
 fn clients_are_answered_all_the_same_over_lru(rt: HostRuntime) -> Result<(), Fail> {
     for example in &EXAMPLES {
@@ -446,7 +446,7 @@ fn clients_are_answered_all_the_same_over_lru(rt: HostRuntime) -> Result<(), Fai
     Ok(())
 }
 
-/// The same over a table.
+/// Likewise over a table.
 #[test]
 fn clients_are_answered_all_the_same_over_a_table(rt: HostRuntime) -> Result<(), Fail> {
     for example in &EXAMPLES {

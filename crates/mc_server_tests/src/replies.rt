@@ -1,4 +1,4 @@
-//! What no clause of a writer of replies says: that it finds memory where there is some.
+//! What no clause of a writer of replies says: that it finds memory if there is some.
 
 use mc_reply::{
     Marks, Reply, ReplyError, Shown, write_end, write_fault, write_key, write_line, write_meta,
@@ -22,7 +22,7 @@ enum Writer {
     Alone,
 }
 
-/// Each writer, and what it appends.
+/// Each writer, and the bytes that it appends.
 const WRITERS: [(Writer, &'static [u8]); 9] = [
     (Writer::Hit, b"VALUE a 5 3 18446744073709551615\r\nxyz\r\n"),
     (Writer::End, b"END\r\n"),
@@ -41,7 +41,7 @@ const WRITERS: [(Writer, &'static [u8]); 9] = [
     (Writer::Alone, b"VERSION 1.6.0\r\n"),
 ];
 
-/// What a meta command shows of an item that it is to fill anew.
+/// What a meta command shows of an item that its client must fill anew.
 const SHOWN: Shown = Shown {
     cas: Some(u64::MAX),
     flags: Some(5),
@@ -65,7 +65,7 @@ fn write_meta_with_all(out: &mut Vec<u8>) -> Result<(), ReplyError> {
     write_meta(b"a", &form, &reply, out)
 }
 
-/// Appends by a writer, and says whether it succeeded.
+/// Appends by a writer, and returns whether it succeeded.
 fn has_written(writer: Writer, out: &mut Vec<u8>) -> bool {
     let hit = Reply::Hit {
         flags: 5,

@@ -19,7 +19,7 @@ pub struct Setup {
     pub items: usize,
     /// The last number that was given to an item.
     pub last: u64,
-    /// For how many new keys there is memory.
+    /// The number of new keys that there is memory for.
     pub keys: u64,
 }
 
@@ -34,12 +34,12 @@ pub const WIDE: Setup = Setup {
 /// The moment of every turn, in seconds.
 pub const MOMENT: u64 = 100;
 
-/// A server that is set up so.
+/// A server with this setup.
 pub fn new_server(alloc: Global, setup: Setup) -> Result<Server<MeagreStore>, Fail> {
     server_over(alloc, MeagreStore::new(alloc, setup.keys), setup)
 }
 
-/// A server over a store, which is set up so but for the memory for new keys.
+/// A server over a store, with this setup except the memory for new keys.
 pub fn server_over<S: Store + Drop>(
     alloc: Global,
     store: S,

@@ -10,14 +10,14 @@ use std::io::{ErrorKind, Read, Write};
 /// What a call of a side of a stream does.
 #[derive(Clone, Copy)]
 pub enum Call {
-    /// It moves so many bytes, or fewer where there are no more.
+    /// It moves this number of bytes, or all if there are fewer.
     Moves(usize),
     Blocks,
     Interrupts,
     Fails,
 }
 
-/// What the reads do, over and over, and what the writes do.
+/// What the reads do, repeatedly, and what the writes do.
 pub const SCRIPTS: [(&[Call], &[Call]); 8] = [
     (&[Moves(1)], &[Moves(1)]),
     (&[Moves(2)], &[Moves(7)]),
@@ -36,7 +36,7 @@ pub const SCRIPTS: [(&[Call], &[Call]); 8] = [
 #[derive(Clone, Copy)]
 pub struct Calls {
     script: &'static [Call],
-    /// A call that does otherwise, by its number, counted from 0.
+    /// A call that does something else, by its number, counted from 0.
     odd: Option<(usize, Call)>,
     /// How many calls were made.
     pub made: usize,
@@ -51,13 +51,13 @@ impl Calls {
         }
     }
 
-    /// The same, but for one call.
+    /// These calls, with one of them replaced.
     fn with(self, number: usize, call: Call) -> Self {
         let odd = Some((number, call));
         Calls { odd, ..self }
     }
 
-    /// Makes a call, and says how many bytes it may move.
+    /// Makes a call, and returns how many bytes it may move.
     fn make(&mut self) -> io::Result<usize> {
         let number = self.made;
         self.made = number.wrapping_add(1);
@@ -145,7 +145,7 @@ impl Gather for Sink {
     }
 }
 
-/// The first bytes of a part, at most so many.
+/// The first bytes of a part, at most this number.
 fn front(part: &[u8], most: usize) -> &[u8]
     ensures { length result.now ≤ length part.now }
 {
@@ -169,7 +169,7 @@ impl Sides {
         }
     }
 
-    /// The same, but for one call of one of them.
+    /// These sides, with one call of one of them replaced.
     pub fn with(self, is_write: bool, number: usize, call: Call) -> Self {
         if is_write {
             let writes = self.writes.with(number, call);

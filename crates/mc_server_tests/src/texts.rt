@@ -1,4 +1,4 @@
-//! What no clause of keys and blocks says: that they find memory where there is some.
+//! What no clause of keys and blocks says: that they find memory if there is some.
 
 use mc_request::Keys;
 use mc_text::{Block, Key, KeyError};

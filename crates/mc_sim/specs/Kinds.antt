@@ -4,6 +4,6 @@ use Rattle.std.specs.Str.{bytes_eq}
 use Rattle.mc_sim.specs.declared.kinds.StoreKind.{StoreKind}
 use Rattle.mc_sim.specs.declared.kinds.StoreKind.TheVariants.{List as ListKind, Lru, Table}
 
--- the kind of a name: a list's or a table's, and lru's of any other
+-- the kind of a name: `list` or `table`, and `lru` for any other
 abbrev pub kind_named : List ℕ → StoreKind
 kind_named name = if bytes_eq name (codes "list") then ListKind else (if bytes_eq name (codes "table") then Table else Lru)

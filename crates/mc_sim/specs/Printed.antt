@@ -15,7 +15,7 @@ IsTextFor true Outputs input text = IsPoolTextOf input text
 IsTextFor true Account input text = IsAccountOf input text
 IsTextFor false printed input text = IsTextOf input text
 
--- why there is no text: the first bad line of the input as such a script, or want of memory
+-- why there is no text: the first bad line of the input as such a script, or refused memory
 abbrev pub ExplainsFor : Bool → SimError → List ℕ → Type 0
 ExplainsFor true error input = Explains error (pool_script_of input)
 ExplainsFor false error input = Explains error (script_of input)

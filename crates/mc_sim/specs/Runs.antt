@@ -14,12 +14,12 @@ pub record Prints (printed : Printed) (input : List ℕ) (old new : Option (List
   pub is : IsTextFor (is_of_pool input) printed input text
   pub written : Appends old new text
 
--- whatever stops a run but a failed write stops it before anything is written
+-- any cause that stops a run, except a failed write, stops it before anything is written
 abbrev pub StopsBeforeWriting : SimError → Option (List ℕ) → Option (List ℕ) → Type 0
 StopsBeforeWriting (Stream Output) old new = Unit {0}
 StopsBeforeWriting other old new = Keeps old new
 
--- where a run stopped at a bad line, that is the first one of the input
+-- if a run stopped at a bad line, that is the first one of the input
 abbrev pub IsBadLineOf : SimError → List ℕ → Type 0
 IsBadLineOf (BadLine n) input = ExplainsFor (is_of_pool input) (BadLine n) input
 IsBadLineOf other input = Unit {0}

@@ -1,4 +1,4 @@
-//! Why the program ends with another status than 0.
+//! Why the program ends with a status other than 0.
 ghost use Rattle.std.specs.Prelude.{◌≡◌, MatchResult};
 ghost use Rattle.mc_program.specs.Statuses.{failure_by};
 ghost use Rattle.mc_script.specs.declared.errors.SimError.TheVariants.{Memory};
@@ -9,10 +9,10 @@ use mc_program::Failure;
 use mc_script::SimError;
 use std::alloc::AllocError;
 
-/// Why the program ends with another status than 0.
+/// Why the program ends with a status other than 0.
 #[derive(Debug, Drop)]
 pub enum Ending {
-    /// The words are refused, or ask for help; or there is no memory to read them.
+    /// The words are refused, or ask for help; or memory to read them is missing.
     Words(Failure),
     /// The script was not played to its end.
     Script(SimError),
@@ -29,19 +29,19 @@ impl Ending {
         }
     }
 
-    /// Says it on standard error; a text of help goes to standard output.
+    /// Prints it on standard error; a text of help goes to standard output.
     pub fn tell<R: Print + Eprint>(&self, rt: &R) {
         match self {
             Ending::Words(failure) => failure.tell(rt, "mc_sim"),
             Ending::Script(error) => {
-                // Where standard error is closed too, the status alone says it.
+                // If standard error is closed too, only the status reports it.
                 let _ = eprintln!(rt; "mc_sim: {error}");
             }
         }
     }
 }
 
-/// The exit status of a run: 0 where it came to its end, and else that of its ending.
+/// The exit status of a run: 0 if it ended well, and otherwise that of its ending.
 pub fn exit_status(ended: &Result<(), Ending>) -> u8
     ensures { MatchResult ended.now (λ _. result ≡ 0) (λ ending. result ≡ status_of ending) }
 {

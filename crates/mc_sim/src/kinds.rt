@@ -2,12 +2,12 @@
 ghost use Rattle.std.specs.Prelude.{◌≡◌};
 ghost use Rattle.mc_sim.specs.Kinds.{kind_named};
 
-/// What servers keep their items in.
+/// The kind of store that servers keep their items in.
 #[derive(Clone, Copy, Debug, PartialEq, Eq)]
 pub enum StoreKind {
     /// A plain list.
     List,
-    /// lru's cache.
+    /// The cache of the crate `lru`.
     Lru,
     /// A table.
     Table,
@@ -16,7 +16,7 @@ pub enum StoreKind {
 /// The names of the kinds.
 pub const KINDS: [&str; 3] = ["list", "lru", "table"];
 
-/// The kind of this name. That of any other is lru's.
+/// The kind of this name. Any other name stands for `lru`.
 pub fn kind_named(name: &str) -> StoreKind
     ensures { result ≡ kind_named name.now }
 {

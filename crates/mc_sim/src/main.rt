@@ -1,9 +1,8 @@
 //! Plays the script on standard input, of a server or of a pool, and prints what its clients were sent. Options ask for the account of a
-//! pool ([`options`]), or choose what the servers keep their items in.
+//! pool ([`options`]), or choose the kind of store that the servers keep their items in.
 //!
-//! The exit status is 0 where the script was played to its end. Else it is 2 at a bad line, and where words are refused or ask for
-//! help; 3 where a read or a write failed; and 4 where there was no memory. Standard error says why. The words are read before
-//! the script.
+//! The exit status is 0 if the script was played to its end, and 2 at a bad line. It is 2 also if words are refused or ask for help, 3
+//! if a read or a write failed, and 4 if memory was refused. Standard error has the reason. The words are read before the script.
 #![tactic(auto)]
 
 mod endings;
@@ -51,7 +50,7 @@ where
         )?;
         return Ok(());
     }
-    // The script is read first, so that each line can be told.
+    // The script is read first, so that each line can be reported.
     let input = read_input(alloc, &mut rt.reader())?;
     trace(rt, alloc, input.as_slice())?;
     run(

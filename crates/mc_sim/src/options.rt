@@ -11,16 +11,16 @@ use std::alloc::{AllocError, Global};
 /// What a command line asks for.
 #[derive(Clone, Copy, Debug)]
 pub struct Options {
-    /// What servers keep their items in.
+    /// The kind of store that servers keep their items in.
     pub kind: StoreKind,
     /// What to print.
     pub printed: Printed,
-    /// Whether to say what each line does.
+    /// Whether to report what each line does.
     pub trace: bool,
 }
 
 impl Options {
-    /// What matches of [`command`] ask for.
+    /// The options in the matches of [`command`].
     pub fn of(matches: &ArgMatches<'_>) -> Options {
         Options {
             kind: kind_named(matches.get_str("store").unwrap_or("lru")),
@@ -30,7 +30,7 @@ impl Options {
     }
 }
 
-/// What to print, where the account is asked for or not.
+/// What to print, by whether the account is asked for.
 fn printed_by(account: bool) -> Printed
     ensures { result ≡ (if account then Printed.Account else Printed.Outputs) }
 {

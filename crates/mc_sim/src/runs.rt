@@ -8,12 +8,12 @@ use mc_script::{SimError, read_input, write_text};
 use std::alloc::Global;
 use std::io::{Read, Write};
 
-/// Reads a script to its end, and writes its text ([`text_of_input`]). Whatever stops it but a failed write stops it before
-/// anything is written.
+/// Reads a script to its end, and writes its text ([`text_of_input`]). Any cause that stops it, except a failed write,
+/// stops it before anything is written.
 ///
-/// The clauses speak of the bytes that the reader has and the writer holds, where those are known. Of standard input
-/// and output they are not: there what is promised is the contract of [`text_of_input`], and that this function hands
-/// it all that was read, and hands on all that it answers, is seen by reading its three lines.
+/// The clauses are about the bytes that the reader has and the writer holds, if those are known. For standard input and
+/// output they are not. There the contract of [`text_of_input`] is what is promised. Its three lines show that this
+/// function passes it all bytes that it read, and passes on all that it returns.
 pub fn run<R: Read, W: Write>(
     alloc: Global,
     kind: StoreKind,

@@ -9,17 +9,17 @@ use mc_script::{ScriptStore, SimError, text_of_script};
 use mc_store::{FixedHasher, ListStore, LruStore, TableStore};
 use std::alloc::Global;
 
-/// What is to be printed.
+/// What to print.
 #[derive(Clone, Copy, Debug, PartialEq, Eq)]
 pub enum Printed {
     /// A line for each client.
     Outputs,
-    /// For a script of a pool its account too.
+    /// The account too, for a script of a pool.
     Account,
 }
 
-/// The text that is printed for a script of a server or of a pool, which is played over stores of a kind. What it is does not depend
-/// on the kind.
+/// The text that is printed for a script of a server or of a pool, which is played over stores of a kind. It does not depend on the
+/// kind.
 pub fn text_of_input(
     alloc: Global,
     kind: StoreKind,
@@ -36,7 +36,7 @@ pub fn text_of_input(
     }
 }
 
-/// The same, over such stores.
+/// The text of [`text_of_input`], over such stores.
 fn text_over<S: ScriptStore>(
     alloc: Global,
     printed: Printed,

@@ -1,4 +1,4 @@
-//! What each line of a pool script does, told line by line.
+//! What each line of a pool script does, reported line by line.
 
 use mc_pool_script::{is_of_pool, steps_of_pool_script};
 use mc_script::{SimError, lines_of};
@@ -7,8 +7,8 @@ use mc_world::Step;
 use std::alloc::Global;
 use std::str;
 
-/// Says on standard error what each line of a pool script does that follows the head and the points. Of a server's script
-/// nothing is said.
+/// Reports on standard error what each line of a pool script does that follows the head and the points. It reports
+/// nothing of a server's script.
 pub fn trace<R: Eprint>(rt: &R, alloc: Global, input: &[u8]) -> Result<(), SimError> {
     if !is_of_pool(input) {
         return Ok(());
@@ -18,7 +18,7 @@ pub fn trace<R: Eprint>(rt: &R, alloc: Global, input: &[u8]) -> Result<(), SimEr
     Ok(())
 }
 
-/// Says it of the last lines, one for each step.
+/// Reports it for the last lines, one for each step.
 fn tell_all<R: Eprint>(rt: &R, input: &[u8], steps: &[Step]) {
     let lines = lines_of(input).fold(0_usize, |count, _| count.saturating_add(1));
     let before = lines.saturating_sub(steps.len());
@@ -27,7 +27,7 @@ fn tell_all<R: Eprint>(rt: &R, input: &[u8], steps: &[Step]) {
     }
 }
 
-/// Says it of a line. Whom that does not reach is served all the same.
+/// Reports it for a line. Best effort: a failed write is ignored.
 fn tell<R: Eprint>(rt: &R, number: u64, line: &[u8], step: Step) {
     let did = match step {
         Step::Done => "done",

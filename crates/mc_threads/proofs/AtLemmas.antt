@@ -1,4 +1,4 @@
--- What is read of a list at a place, where one place is another, and where one is added.
+-- What is read of a list at a place, after one place is replaced, and after one is added.
 use Rattle.std.proofs.Common.{◌≡◌, ◌≢◌, ◌∙◌, ⊎_elim, ℕ, suc, ◌<◌, ◌≤◌, ◌+◌, Bool, if◌then◌else◌, List, [], ◌∷◌, ◌++◌, length, map, set, take, get_or, nat_lt, refl, sym, ap, subst, append_assoc, append-nil, arith, get_or-set_same, get_or-set_other, length-append}
 use Rattle.std.proofs.Math.Seq.{take-suc}
 use Rattle.std.proofs.lemmas.Bool.{cases_lt, le-ltb, lt-ltb}
@@ -14,7 +14,7 @@ at_map f xs i d low = get_or-map f xs i d [] low
 pub at_past : {X : Type 0} (f : X → List ℕ) (xs : List X) (i : ℕ) → length xs ≤ i → at (map f xs) i ≡ []
 at_past f xs i past = get_or_past (map f xs) i [] (omega (arith, length-map xs f, past))
 
--- where the one of a place is another
+-- the element of a place is replaced
 pub at_set : {X : Type 0} (f : X → List ℕ) (xs : List X) (k : ℕ) (v : X) → k < length xs → (n : ℕ) → at (map f (set xs k v)) n ≡ changed k (f v) (at (map f xs)) n
 at_set f xs k v low n =
     let size : length (map f xs) ≡ length xs = length-map xs f in
@@ -31,7 +31,7 @@ at_set_own f xs k v low = at_set f xs k v low k ∙ changed-own k (f v) (at (map
 pub at_set_other : {X : Type 0} (f : X → List ℕ) (xs : List X) (k : ℕ) (v : X) → k < length xs → (n : ℕ) → k ≢ n → at (map f (set xs k v)) n ≡ at (map f xs) n
 at_set_other f xs k v low n differ = at_set f xs k v low n ∙ changed-other k n (f v) (at (map f xs)) differ
 
--- where f cannot tell the new one from the old
+-- the element is replaced, and f does not distinguish the two
 pub at_set_same : {X : Type 0} (f : X → List ℕ) (xs : List X) (k : ℕ) (v w : X) → k < length xs → w ≡ get_or xs k w → f v ≡ f w → (n : ℕ) → at (map f (set xs k v)) n ≡ at (map f xs) n
 at_set_same f xs k v w low is same n =
     ⊎_elim
@@ -40,7 +40,7 @@ at_set_same f xs k v w low is same n =
     (λ e. at_set_other f xs k v low n e.1)
     (eqb_tells k n)
 
--- where one more is added
+-- one element is added
 pub at_push_low : {X : Type 0} (f : X → List ℕ) (xs : List X) (v : X) (n : ℕ) → n < length xs → at (map f (xs ++ v ∷ [])) n ≡ at (map f xs) n
 at_push_low f xs v n low =
     ap (λ (ys : List (List ℕ)). at ys n) (map-append f xs (v ∷ []))
@@ -111,7 +111,7 @@ below_next k text texts is n =
     (cases_lt n k))
     (eqb_tells k n)
 
--- all of them
+-- all texts
 pub below_all : (count : ℕ) (texts : ℕ → List ℕ) → ((n : ℕ) → count ≤ n → texts n ≡ []) → (n : ℕ) → below count texts n ≡ texts n
 below_all count texts none n =
     ⊎_elim
@@ -119,7 +119,7 @@ below_all count texts none n =
     (λ (past : count ≤ n). below_past count texts n past ∙ sym (none n past))
     (cases_lt n count)
 
--- nothing is read where nothing is at each place, and where nothing is added
+-- nothing is read if nothing is at any place, and if nothing is added
 pub some_at : {X : Type 0} (xs : List X) (i : ℕ) → i < length xs → X
 some_at [] i low = absurd (omega (arith, low))
 some_at (x ∷ xs) i low = x

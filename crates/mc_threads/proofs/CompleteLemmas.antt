@@ -45,7 +45,7 @@ none_of : {T : Type 0} (xs : List T) → length xs ≡ 0 → xs ≡ []
 none_of [] h = refl
 none_of (x ∷ xs) h = absurd (omega (arith, h))
 
--- what of a session that is over was asked and put out
+-- the requests that were taken of a session that is over, and the bytes emitted to it
 record IsOver (order : Order) (text out : List ℕ) (client : ℕ) : Type 0 where
   pub asked : taken_of client order ≡ requests_of text
   pub put : out ≡ answers_of (entries_of client order)
@@ -96,13 +96,13 @@ can_all : (s : CacheState) (made : List Made) (commands : List Tagged) → map (
     → CanHave commands (map (λ (m : Made). m.reply) made)
 can_all s made commands is h = subst (λ (cs : List Tagged). CanHave cs (map (λ (m : Made). m.reply) made)) is (can_made s made h)
 
--- what was made for a server, of the commands of an order
+-- the commands of an order that were executed by a server
 record IsMadeFor (ring : RingState) (opening : CacheState) (order : Order) (began ended : List ℕ) (server : ℕ) : Type 0 where
   pub made : List Made
   pub of : IsMadeOf opening order server made
   pub clocked : server < length ring.servers → (quit : ℕ) × (ended ≡ began ++ (map (λ (m : Made). m.moment) made ++ quit ∷ []))
 
--- by a server whose link has nothing to send and nothing to wait for
+-- a server whose link has nothing to send and no pending command executed them
 home_made : (ring : RingState) (opening : CacheState) (texts outs : ℕ → List ℕ) (order : Order) (lanes : ℕ → Lane) (proxy : ProxyState) (began ended : List ℕ) (server : ℕ)
     (sv : IsServed opening began ended (commands_to server order) (lanes server).came)
     → ProxyHolds texts outs order lanes proxy → (link_at proxy.links server).up ≡ true → (lanes server).since ≡ 0 → (link_at proxy.links server).waiting ≡ []
@@ -135,7 +135,7 @@ home_made ring opening texts outs order lanes proxy began ended server sv holds 
       clocked = λ low. (sv.quit, sv.clocked);
     }
 
--- each outcome is a reply where those of the commands to each server are
+-- each outcome is a reply if those of the commands to each server are
 replied_from : (commands : List Routed) (xs : List Outcome) → length xs ≡ length commands → ((place : ℕ) → list_all is_reply (outcomes_from place commands xs) ≡ true)
     → list_all is_reply xs ≡ true
 replied_from [] [] h known = refl
@@ -160,7 +160,7 @@ replied_order (e ∷ es) sized known =
     (replied_from (route_of_taken e.ring e.what) e.outcomes (All-head IsSized e es sized) (λ place. (parts place).0))
     (replied_order es (All-tail IsSized e es sized) (λ place. (parts place).1))
 
--- beyond the servers of the ring none is routed
+-- no command is routed beyond the servers of the ring
 none_from : (servers place : ℕ) (commands : List Routed) (xs : List Outcome) → servers ≤ place → All (λ (c : Routed). c.server < servers) commands → outcomes_from place commands xs ≡ []
 none_from servers place [] xs above inside = refl
 none_from servers place (c ∷ cs) [] above inside = refl
@@ -169,7 +169,7 @@ none_from servers place (c ∷ cs) (x ∷ xs) above inside =
     let not_here : (c.server == place) ≡ false = grind (arith, nat_tests, low, above) in
     rw not_here (none_from servers place cs xs above (All-tail (λ (c : Routed). c.server < servers) c cs inside))
 
--- the commands of what was taken go to servers of the ring
+-- the commands of a request go to servers of the ring
 taken_inside : (ring : RingState) (what : Taken) → IsRing ring → All (λ (routed : Routed). routed.server < length ring.servers) (route_of_taken ring what)
 taken_inside ring (Whole request) is_ring = route_inside ring request is_ring
 taken_inside ring (Faulty fault) is_ring = All-nil (λ (routed : Routed). routed.server < length ring.servers)
@@ -186,7 +186,7 @@ none_left : (cs : List Tagged) → length cs ≡ 0 → [] ≡ cs
 none_left [] size = refl
 none_left (c ∷ cs) size = absurd (omega (arith, size))
 
--- so nothing is made there
+-- no command is executed there
 beyond_made : (ring : RingState) (opening : CacheState) (texts outs : ℕ → List ℕ) (order : Order) (lanes : ℕ → Lane) (proxy : ProxyState) (began ended : List ℕ) (server : ℕ) → IsRing ring
     → ProxyHolds texts outs order lanes proxy → All (λ (e : Entry). e.ring ≡ ring) order → length ring.servers ≤ server → IsMadeFor ring opening order began ended server
 beyond_made ring opening texts outs order lanes proxy began ended server is_ring holds rings above =
@@ -208,8 +208,8 @@ all_replies : (made : List Made) → list_all is_reply (map (λ (m : Made). Repl
 all_replies [] = refl
 all_replies (m ∷ ms) = all_replies ms
 
--- A run in which the caller's thread is through with all clients and servers, and in which each server's worker received what its link
--- sent and `quit`, and sent what came.
+-- A run in which the caller's thread is done with all clients and servers. Each server's worker received the bytes that its link sent
+-- and `quit`, and sent the bytes that the link received.
 pub completes : (ring : RingState) (opening : CacheState) (clients : ℕ) (texts outs went came began ended : ℕ → List ℕ) (proxy : ProxyState) → IsGoodCache opening
     → Talks ring clients texts outs went came proxy → IsQuiet clients (length ring.servers) proxy
     → ((server : ℕ) → server < length ring.servers → (history : List Taking) × IsWorked opening (began server) (ended server) (went server ++ codes "quit\r\n") (came server) history)

@@ -1,4 +1,4 @@
--- What was made of an order's commands is a legal history of them.
+-- The executed commands of an order are a legal history of it.
 use Rattle.std.proofs.Common.{◌≡◌, ◌∙◌, ℕ, zero, suc, List, [], ◌∷◌, map, Some, slice_get, refl, sym, ap}
 use Rattle.std.specs.Prelude.{All}
 use Rattle.std.proofs.lemmas.Option.{none-some, same_Some}
@@ -22,7 +22,7 @@ use Rattle.mc_history.specs.Named.{AreReplied, IsNamed, tags_of}
 use Rattle.mc_history.specs.declared.entries.Entry.{Entry}
 use Rattle.mc_history.proofs.OutcomeLemmas.{entry_made}
 
--- what was made of the commands to a place, each of which was replied what was made
+-- the executed commands of an order at a place, each of which has the reply that it was given
 pub record IsMadeOf (opening : CacheState) (order : Order) (place : ℕ) (made : List Made) : Type 0 where
   pub numbered : (number : ℕ) → AreInOrder (entries_of number order)
   pub sized : All IsSized order
@@ -30,7 +30,7 @@ pub record IsMadeOf (opening : CacheState) (order : Order) (place : ℕ) (made :
   pub outcomes : outcomes_to place order ≡ map (λ (m : Made). Reply m.reply) made
   pub made_is : AreMade opening made
 
--- what is at a number of a list that is mapped
+-- the element at a number of a mapped list
 pub map_at : {X Y : Type 0} (f : X → Y) (xs : List X) (i : ℕ) (x : X) → slice_get xs i ≡ Some x → slice_get (map f xs) i ≡ Some (f x)
 map_at f [] zero x at = absurd (none-some x at)
 map_at f [] (suc i) x at = absurd (none-some x at)
@@ -47,7 +47,7 @@ each_at : {X : Type 0} (P : X → Type 0) (xs : List X) → ((i : ℕ) (x : X) �
 each_at P [] h = tt
 each_at P (x ∷ xs) h = (h zero x refl, each_at P xs (λ i y at. h (suc i) y at))
 
--- a command that was made, and its outcome, are found by its tag
+-- a command that was executed, and its outcome, are found by its tag
 found : (opening : CacheState) (order : Order) (place : ℕ) (made : List Made) (i : ℕ) (m : Made) → IsMadeOf opening order place made → slice_get made i ≡ Some m
     → (command_at order m.command.1 ≡ Some (to_place place m.command.0)) × (outcome_at order m.command.1 ≡ Some (Reply m.reply))
 found opening order place made i m h at =
@@ -71,7 +71,7 @@ legal_made opening order place made h =
     legal_history place order opening made h.made_is
     (each_at (λ (m : Made). IsNamed place order m.command) made (λ i m at. (found opening order place made i m h at).0))
 
--- the tags of the entries are those of the commands, and their moments those of what was made
+-- the tags of the entries are those of the commands, and so are their moments
 tags_same : (made : List Made) → map tag_in (map entry_of made) ≡ tags_of (map (λ (m : Made). m.command) made)
 tags_same [] = refl
 tags_same (m ∷ ms) = ap (λ (ts : List Tag). m.command.1 ∷ ts) (tags_same ms)

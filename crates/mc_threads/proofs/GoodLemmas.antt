@@ -1,4 +1,4 @@
--- The commands that were sent can be spelled, since clients' texts can say nothing else.
+-- The commands that were sent can be encoded, since clients' texts have no others.
 use Rattle.std.proofs.Common.{◌≡◌, ◌∙◌, ℕ, ◌<◌, ◌==◌, Bool, true, false, if◌then◌else◌, List, [], ◌∷◌, map, refl, sym, ap}
 use Rattle.std.specs.Prelude.{All}
 use Rattle.std.specs.List.{list_all}
@@ -13,7 +13,7 @@ use Rattle.mc_account.proofs.OpenSessions.{own_number}
 use Rattle.mc_history.specs.Generations.{is_good}
 use Rattle.mc_history.proofs.GoodLemmas.{good_in}
 
--- what can be spelled, in each client's requests, goes to each server in commands that can be
+-- requests that can be encoded, of each client, go to each server in commands that can be
 pub good_to : (server : ℕ) (es : Order) → ((client : ℕ) → list_all can_be_spelled (taken_of client es) ≡ true) → list_all is_good (commands_to server es) ≡ true
 good_to server [] spelled = refl
 good_to server (e ∷ es) spelled =
@@ -27,7 +27,7 @@ good_to server (e ∷ es) spelled =
     passes_joined is_good (commands_in server e) (commands_to server es) (good_in server e (and_parts (can_be_spelled e.what) (list_all can_be_spelled (taken_of e.session es)) own).0)
     (good_to server es others)
 
--- so do the requests of texts that are bytes
+-- likewise for the requests of texts that are bytes
 pub good_texts : (server : ℕ) (es : Order) (texts : ℕ → List ℕ) → ((client : ℕ) → All (λ b. b < 256) (texts client)) → ((client : ℕ) → taken_of client es ≡ requests_of (texts client))
     → list_all is_good (commands_to server es) ≡ true
 good_texts server es texts bytes asked =

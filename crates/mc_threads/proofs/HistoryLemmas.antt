@@ -1,4 +1,4 @@
--- A worker's history of what its link sent: the link's commands, and `quit`.
+-- A worker's history of the bytes that its link sent: the link's commands, and `quit`.
 use Rattle.std.proofs.Common.{◌≡◌, ◌∙◌, ℕ, ◌<◌, ◌^◌, ◌==◌, true, false, if◌then◌else◌, List, [], ◌∷◌, ◌++◌, map, codes, refl, sym, ap, subst, append-nil}
 use Rattle.std.specs.List.{All, list_all}
 use Rattle.std.proofs.lemmas.Bool.{and_parts}
@@ -27,12 +27,13 @@ use Rattle.mc_history.proofs.MadeLemmas.{cache_made, commands_made, told_on}
 use Rattle.mc_history.proofs.RefusalLemmas.{entry_refused}
 use Rattle.mc_threads.specs.Workers.{IsWorked, moments_of}
 
--- all of the one connection
+-- all commands are of the one connection
 abbrev pub AreFirst : List Made → Type 0
 AreFirst [] = Unit {0}
 AreFirst (m ∷ ms) = (m.connection ≡ 0) × AreFirst ms
 
--- what a worker made of what its link sent: the link's commands in order, and `quit`; what it sent tells the replies
+-- the commands that a worker made of the bytes that its link sent: the link's commands in order, and `quit`; the
+-- bytes that it sent give the replies
 pub record IsServed (opening : CacheState) (began ended : List ℕ) (commands : List Tagged) (sent : List ℕ) : Type 0 where
   pub made : List Made
   pub made_is : AreMade opening made
@@ -41,7 +42,7 @@ pub record IsServed (opening : CacheState) (began ended : List ℕ) (commands : 
   pub quit : ℕ
   pub clocked : ended ≡ began ++ (map (λ (m : Made). m.moment) made ++ quit ∷ [])
 
--- what a command was made, of an entry that took it
+-- the command of an entry that took it, as it was made
 abbrev made_of : CacheState → Tagged → Entry → Made
 made_of s c e = record { connection = 0; command = c; moment = e.moment; refused = e.refused; reply = (step_of s c.0 e.moment e.refused).1 }
 
@@ -55,7 +56,7 @@ record Tells (s : CacheState) (commands : List Tagged) (history : List Entry) : 
   pub made_is : AreMade s made
   pub first : AreFirst made
 
--- what was taken of the one connection is all
+-- the requests that were taken of the one connection are all
 all_taken : (history : List Entry) → All (λ e. e.connection ≡ 0) history → taken_of 0 history ≡ map (λ (e : Entry). e.what) history
 all_taken [] only = refl
 all_taken (e ∷ es) only =
@@ -122,7 +123,7 @@ tells s (c ∷ cs) (e ∷ es) good_cache same only early legal good =
       first = (refl, others.first);
     }
 
--- all that was made was made on the one connection
+-- all commands were made on the one connection
 commands_first : (made : List Made) → AreFirst made → commands_on 0 made ≡ map (λ (m : Made). m.command) made
 commands_first [] h = refl
 commands_first (m ∷ ms) h = rw h.0 (ap (λ (xs : List Tagged). m.command ∷ xs) (commands_first ms h.1))
@@ -131,7 +132,7 @@ replies_first : (made : List Made) → AreFirst made → replies_on 0 made ≡ m
 replies_first [] h = refl
 replies_first (m ∷ ms) h = rw h.0 (ap (λ (xs : List (AReply (List ℕ))). m.reply ∷ xs) (replies_first ms h.1))
 
--- `quit` is answered nothing
+-- `quit` has an empty answer
 quit_silent : (s : CacheState) (e : Entry) → e.what ≡ Whole Quit → answer_after s e ≡ []
 quit_silent s e h = rw h refl
 

@@ -1,4 +1,4 @@
--- The ends of workers' rings are brought together one after another.
+-- The ends of workers' rings are brought together in sequence.
 use Rattle.std.proofs.Common.{◌≡◌, ◌∙◌, inl, inr, ℕ, zero, suc, ◌<◌, ◌≤◌, ◌+◌, List, [], ◌∷◌, ◌++◌, length, map, drop, get_or, Result, Ok, Some, slice_get, sym, ap, subst, arith}
 use Rattle.std.proofs.lemmas.Bool.{cases_eq}
 use Rattle.rtrb.specs.Ring.{sent, received}
@@ -15,14 +15,14 @@ use Rattle.mc_threads.specs.declared.worker.Bounds.{Bounds}
 use Rattle.mc_threads.specs.declared.worker.Done.{Done}
 use Rattle.mc_threads.proofs.AtLemmas.{at_map, at_nothing, at_push_low, at_push_own, some_at}
 
--- what is first of what is left after so many
+-- the first element of the rest after a number of them
 pub first_left : {X : Type 0} (xs : List X) (k : ℕ) (x : X) (rest : List X) → drop k xs ≡ x ∷ rest → slice_get xs k ≡ Some x
 first_left [] zero x rest e = absurd cc
 first_left [] (suc k) x rest e = absurd cc
 first_left (y ∷ ys) zero x rest e = cc
 first_left (y ∷ ys) (suc k) x rest e = first_left ys k x rest e
 
--- the rings of one worker more have met, and its clock was kept
+-- the rings of one more worker have met, and its clock was kept
 pub settled_push : {C : Type 0} (times : C → List ℕ) (results : List (Result (Done C) Ended)) (k : ℕ) (cs cs2 : List C) (ends : List Ends) (done : Done C) (c : C) (e : Ends)
     → length cs ≡ k → cs2 ≡ cs ++ c ∷ [] → c ≡ done.clock → slice_get results k ≡ Some (Ok done) → e ≡ get_or ends k e → k < length ends
     → received done.from ≡ sent e.to → sent done.to ≡ received e.from → ((server : ℕ) → server < k → HasSettled C times results cs ends server)
@@ -49,7 +49,7 @@ settled_push {C} times results k cs cs2 ends done c e size grown own joined is i
       }
 ]
 
--- what the worker of a server did, by the clocks that were handed in and those that it gave back
+-- what the worker of a server did, by the clocks that were given and those that it returned
 pub worked_at : {C G H : Type 0} (f : H → Given C G) (times : C → List ℕ) (bounds : Bounds) (n server : ℕ) (hs : List H) (cs : List C) (h : H) (ended went came ended2 went2 came2 : List ℕ)
     → n ≤ length hs → n ≤ length cs → (f h).bounds.value ≡ bounds → h ≡ get_or hs server h → Each2 (λ x c. (f x).clock.value ≡ c) n hs cs → server < n
     → ended ≡ ended2 → went ≡ went2 → came ≡ came2
@@ -92,7 +92,7 @@ refused_at {C} {G} {H} f lets refuses gate n server hs h is gates low was =
     let B : ℕ → Type 0 = λ p. WasRefused (lets (f h).gate.value p) (refuses (f h).gate.value p) in
     subst A own (subst B here was)
 
--- nothing was said yet over these rings
+-- no byte was sent yet over these rings
 pub fresh_ends : {H : Type 0} (ends : List Ends) (hs : List H) (n : ℕ) → length ends ≡ n → n ≤ length hs → Each2 (λ e (h : H). IsFresh e) n ends hs
     → (m : ℕ) → (went_to ends m ≡ []) × (came_from ends m ≡ [])
 fresh_ends {H} ends hs n size handles fresh m = (

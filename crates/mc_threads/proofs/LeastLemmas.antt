@@ -1,4 +1,4 @@
--- The least of several causes, as one worker more is joined.
+-- The least of several causes, as one more worker is joined.
 use Rattle.std.proofs.Common.{◌≡◌, ◌⊎◌, inl, inr, ℕ, zero, suc, ◌<◌, ◌≤◌, List, [], ◌∷◌, ◌++◌, length, Result, Ok, Err, Some, slice_get, IfErr, refl, sym, subst, arith}
 use Rattle.std.specs.Prelude.{OnOk}
 use Rattle.std.proofs.lemmas.Option.{none-some, same_Some}
@@ -7,7 +7,7 @@ use Rattle.mc_threads.specs.Workers.{WasRefused}
 use Rattle.mc_threads.specs.declared.errors.Ended.{Ended}
 use Rattle.mc_threads.specs.declared.errors.Ended.TheVariants.{GateShut, EndsDiffer, StartFailed, Strange, Memory, Stopped}
 
--- what is at a number of a list to which one is added
+-- the element at a number of a list to which one is added
 at_pushed : {X : Type 0} (xs : List X) (x : X) (i : ℕ) (y : X) → slice_get (xs ++ x ∷ []) i ≡ Some y → (slice_get xs i ≡ Some y) ⊎ (x ≡ y)
 at_pushed [] x zero y at = inr (same_Some x y at)
 at_pushed [] x (suc i) y at = absurd (none-some y at)
@@ -35,7 +35,7 @@ cause_pushed {T} own rs r e (inr there) = elim (at_pushed rs r there.0 (Err e) t
   | inr last ↦ inr last
 ]
 
--- what is no more than the least so far is no more than any cause so far
+-- a cause that is at most the least so far is at most any cause so far
 no_more : {T : Type 0} (own : Result (Unit {0}) Ended) (rs : List (Result T Ended)) (least : Result (Unit {0}) Ended) (n : ℕ) (d : Ended) → IsLeast own rs least
     → IfErr least (λ one. n ≤ rank_of one) → IsCause own rs d → n ≤ rank_of d
 no_more own rs (Ok nothing) n d is low cause = absurd (is d cause)
@@ -89,7 +89,7 @@ least-err {T} own rs e next least is one low = (
   ],
 )
 
--- nobody failed, so what holds where the caller's thread ended well holds
+-- no thread failed, so what holds if the caller's thread ended well holds
 pub went_well : {T : Type 0} (own : Result (Unit {0}) Ended) (rs : List (Result T Ended)) (P : Type 0) → ((cause : Ended) → IsCause own rs cause → ⊥) → OnOk own P → P
 went_well (Ok nothing) rs P none on = on
 went_well (Err e) rs P none on = absurd (none e (inl refl))
@@ -103,7 +103,7 @@ other_ends servers lets refuses Strange other = tt
 other_ends servers lets refuses Memory other = tt
 other_ends servers lets refuses Stopped other = tt
 
--- so does the least of the threads' causes, where the gate refused each worker that ended by it
+-- the least of the threads' causes ends a run, if the gate refused each worker that ended by it
 pub least_ends : {T : Type 0} (servers : ℕ) (lets refuses : ℕ → ℕ → Type 0) (own : Result (Unit {0}) Ended) (rs : List (Result T Ended)) (cause : Ended) → IsCause own rs cause
     → IfErr own (λ one. EndsCaller one)
     → ((server : ℕ) → slice_get rs server ≡ Some (Err GateShut) → (k : ℕ) × (k < servers) × WasRefused (lets k) (refuses k)) → EndsRun servers lets refuses cause

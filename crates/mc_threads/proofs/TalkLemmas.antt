@@ -39,7 +39,7 @@ use Rattle.mc_threads.specs.Links.{Carries, IsMoved, pulled_at, pushed_at}
 use Rattle.mc_threads.specs.Talks.{IsOpen, Talks}
 use Rattle.mc_threads.specs.declared.links.Ends.{Ends}
 
--- by other functions that are the same at each number
+-- the invariant holds by functions that are equal at each number
 pub holds_as : (texts texts' sent sent' : ℕ → List ℕ) (order : Order) (lanes : ℕ → Lane) (proxy : ProxyState) → ((n : ℕ) → texts n ≡ texts' n) → ((n : ℕ) → sent n ≡ sent' n)
     → ProxyHolds texts sent order lanes proxy → ProxyHolds texts' sent' order lanes proxy
 holds_as texts texts' sent sent' order lanes proxy text_is sent_is h =
@@ -164,7 +164,7 @@ talks_turned ring clients texts outs went came number turns.Idle old new h steps
 talks_turned ring clients texts outs went came number turns.Waiting old new h steps = talks_idled ring clients texts outs went came number turns.Waiting old new (λ is. absurd cc) h steps
 talks_turned ring clients texts outs went came number turns.Closing old new h steps = talks_idled ring clients texts outs went came number turns.Closing old new (λ is. absurd cc) h steps
 
--- `emit`, and what it put out is moved
+-- `emit`, and the bytes that it emitted are moved
 emitted_alone : (ring : RingState) (clients : ℕ) (texts outs went came : ℕ → List ℕ) (number : ℕ) (emit : Emit) (old new : ProxyState) (h : Talks ring clients texts outs went came old)
     → Steps number old new (Alone (IsEmit emit)) → ProxyHolds texts outs h.order h.lanes new → Talks ring clients texts outs went came new
 emitted_alone ring clients texts outs went came number emit old new h steps holds = record {
@@ -232,7 +232,7 @@ talks_sent ring clients texts outs went came number count old h = record {
   came_is = h.came_is;
 }
 
--- what a client was put out, at its own number and at another
+-- the bytes emitted to a client, at its own number and at another
 changed_as : (number : ℕ) (now : List ℕ) (more : List ℕ) (outs : ℕ → List ℕ) → now ≡ outs number ++ more → (n : ℕ) → grown number more outs n ≡ changed number now outs n
 changed_as number now more outs is n = ap (λ (bytes : List ℕ). changed number bytes outs n) (sym is)
 
@@ -249,7 +249,7 @@ talks_moved ring clients texts outs went came number old new output grown_to h i
     (λ n. refl) (changed_as number grown_to (take (length (output_of (session_at old number))) (output_of (session_at old number))) outs all) (λ n. refl) (λ n. refl)
     (talks_sent ring clients texts outs went came number (length (output_of (session_at old number))) old h))
 
--- the link of one place is another, and what passed over it
+-- the link of one place is replaced, with its lane
 relinked : (texts sent : ℕ → List ℕ) (order : Order) (lanes : ℕ → Lane) (place : ℕ) (lane : Lane) (link : LinkState) (old : ProxyState) → place < length old.links
     → LinkHolds place order lane link → ProxyHolds texts sent order lanes old → ProxyHolds texts sent order (changed place lane lanes) (record old { links = with_link place link old.links })
 relinked texts sent order lanes place lane link old inside own h = record {
@@ -277,7 +277,7 @@ read_changed f place lane lanes went now is own n =
     (λ e. ap f (changed-other place n lane lanes e.1) ∙ is n ∙ sym (changed-other place n now went e.1))
     (eqb_tells place n)
 
--- the same where it stays as it was
+-- a function that stays at a place
 read_same : (f : Lane → List ℕ) (place : ℕ) (lane : Lane) (lanes : ℕ → Lane) (went : ℕ → List ℕ) → ((n : ℕ) → f (lanes n) ≡ went n) → f lane ≡ f (lanes place)
     → (n : ℕ) → f (changed place lane lanes n) ≡ went n
 read_same f place lane lanes went is own n =
@@ -293,7 +293,7 @@ since_changed place lane lanes is own n =
     (λ e. ap (λ (l : Lane). l.since) (changed-other place n lane lanes e.1) ∙ is n)
     (eqb_tells place n)
 
--- bytes went over a link
+-- a link sent bytes
 talks_pushed : (ring : RingState) (clients : ℕ) (texts outs went came : ℕ → List ℕ) (place count : ℕ) (now : List ℕ) (old : ProxyState) → place < length ring.servers
     → now ≡ went place ++ take count (link_at old.links place).output → Talks ring clients texts outs went came old
     → Talks ring clients texts outs (changed place now went) came (pushed_at place count old)
@@ -331,7 +331,7 @@ talks_pushed ring clients texts outs went came place count now old below is h =
       came_is = read_same (λ (l : Lane). l.came) place lane h.lanes came h.came_is refl;
     }
 
--- bytes came over a link
+-- a link received bytes
 talks_pulled : (ring : RingState) (clients : ℕ) (texts outs went came : ℕ → List ℕ) (place : ℕ) (piece now : List ℕ) (old : ProxyState) → place < length ring.servers
     → now ≡ came place ++ piece → Talks ring clients texts outs went came old
     → Talks ring clients texts outs went (changed place now came) (pulled_at place piece old)
@@ -402,7 +402,7 @@ talks_carried ring clients texts outs went came place before after old new below
     (c.came ∙ ap (λ (bytes : List ℕ). bytes ++ c.piece) (sym came_was)) pushed in
     subst (λ (p : ProxyState). Talks ring clients texts outs (changed place (sent after.to) went) (changed place (received after.from) came) p) (sym c.after_is) pulled
 
--- one client more is admitted
+-- one more client is admitted
 pub talks_admitted : (ring : RingState) (clients : ℕ) (texts outs went came : ℕ → List ℕ) (old : ProxyState) → session_at old old.admitted ≡ None
     → Talks ring clients texts outs went came old → Talks ring (clients + 1) texts outs went came (with_fresh old)
 talks_admitted ring clients texts outs went came old none h = record {
@@ -427,7 +427,7 @@ talks_admitted ring clients texts outs went came old none h = record {
   came_is = h.came_is;
 }
 
--- a piece of a client's text came
+-- a piece of a client's text arrived
 bytes_grown : (number : ℕ) (piece : List ℕ) (texts : ℕ → List ℕ) → ((n : ℕ) → All (λ b. b < 256) (texts n)) → All (λ b. b < 256) piece → (n : ℕ) → All (λ b. b < 256) (grown number piece texts n)
 bytes_grown number piece texts h own n =
     ⊎_elim

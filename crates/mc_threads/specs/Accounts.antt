@@ -1,4 +1,4 @@
--- What a run of threads gives account of: this project's own.
+-- The account of a run of threads: this project's own.
 use Rattle.std.specs.Prelude.{ℕ, ◌≡◌, ◌<◌, true, Bool, false, List, [], ◌∷◌, ◌++◌, length, map, slice_index_or, All}
 use Rattle.std.specs.List.{list_all}
 use Rattle.std.specs.declared.vec.Vec.{Vec}
@@ -22,11 +22,11 @@ abbrev pub joined : List Bytes → List ℕ
 joined [] = []
 joined (piece ∷ pieces) = piece.items ++ joined pieces
 
--- of some lists the one at a place: nothing where there is none
+-- the list at a place: empty if there is none
 abbrev pub at : List (List ℕ) → ℕ → List ℕ
 at lists place = slice_index_or lists place []
 
--- the text of each client, which is its pieces joined, and what each was put out
+-- the text of each client, which is its pieces joined, and the bytes emitted to each
 abbrev pub texts_of : List (Vec Bytes Global) → ℕ → List ℕ
 texts_of inputs = at (map (λ pieces. joined pieces.items) inputs)
 
@@ -38,11 +38,11 @@ abbrev pub is_reply : Outcome → Bool
 is_reply (Reply reply) = true
 is_reply other = false
 
--- What a run of threads gives account of, by an order in which all requests were taken: the clients' texts, what was put out to them,
--- the servers' histories, and what the servers' clocks had given before the run and after it, all by number.
+-- The account of a run of threads, by an order in which all requests were taken. It is over the clients' texts, the bytes emitted
+-- to them, the servers' histories, and the moments that the servers' clocks had given before the run and after it, all by number.
 pub record Accounts (ring : RingState) (opening : CacheState) (order : Order) (texts outs : ℕ → List ℕ) (histories : ℕ → List Entry) (began ended : ℕ → List ℕ) : Type 0 where
-  -- the order has all requests of each client, in the client's order; each was routed by this ring, its
-  -- choice for lost commands is `Told`, and each of its commands was replied
+  -- the order has all requests of each client, in the client's order; each was routed by this ring, its choice for lost commands is
+  -- `Told`, and each of its commands has a reply
   pub asked : (client : ℕ) → taken_of client order ≡ requests_of (texts client)
   pub numbered : (client : ℕ) → AreInOrder (entries_of client order)
   pub rings : All (λ (e : Asked). e.ring ≡ ring) order
@@ -54,13 +54,13 @@ pub record Accounts (ring : RingState) (opening : CacheState) (order : Order) (t
   pub commands : (server : ℕ) → map tag_in (histories server) ≡ tags_of (commands_to server order)
   -- a reply is that of its server's history
   pub replied : (server : ℕ) → AreReplied server order (histories server)
-  -- what was put out to a client is the answers to all its requests, in order, and nothing else
+  -- the bytes emitted to a client are the answers to all its requests, in order, and nothing else
   pub put : (client : ℕ) → outs client ≡ answers_of (entries_of client order)
-  -- what a server's clock gave in the run is the moments of its history, and one for `quit`
+  -- the moments that a server's clock gave in the run are those of its history, and one for `quit`
   pub clocked : (server : ℕ) → server < length ring.servers
       → (quit : ℕ) × (ended server ≡ began server ++ (map (λ (e : Entry). e.moment) (histories server) ++ quit ∷ []))
 
--- the account: there is such an order, and there are such histories
+-- the account: such an order and such histories exist
 abbrev pub Account : RingState → CacheState → (ℕ → List ℕ) → (ℕ → List ℕ) → (ℕ → List ℕ) → (ℕ → List ℕ) → Type 0
 Account ring opening texts outs began ended =
     (order : Order) × (histories : ℕ → List Entry) × Accounts ring opening order texts outs histories began ended

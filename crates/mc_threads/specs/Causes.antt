@@ -1,4 +1,4 @@
--- Which of several causes ends a run, and what is answered for it.
+-- Which of several causes ends a run, and which error the run returns.
 use Rattle.std.specs.Prelude.{ℕ, ◌≡◌, ◌<◌, ◌≤◌, ◌⊎◌, List, Result, Ok, Err, Some, slice_get}
 use Rattle.mc_threads.specs.Workers.{WasRefused}
 use Rattle.mc_threads.specs.declared.errors.Ended.{Ended}
@@ -6,7 +6,7 @@ use Rattle.mc_threads.specs.declared.errors.Ended.TheVariants.{GateShut, EndsDif
 use Rattle.mc_threads.specs.declared.errors.ThreadsError.{ThreadsError}
 use Rattle.mc_threads.specs.declared.errors.ThreadsError.TheVariants as errors
 
--- the place of a cause among causes: that of its number, then no memory, and last what another thread's error caused
+-- the rank of a cause: its number, then refused memory, and last a stop that another thread's error caused
 abbrev pub rank_of : Ended → ℕ
 rank_of GateShut = 4
 rank_of EndsDiffer = 5
@@ -19,7 +19,7 @@ rank_of Stopped = 9
 abbrev pub IsCause : {T : Type 0} → Result (Unit {0}) Ended → List (Result T Ended) → Ended → Type 0
 IsCause {T} own results cause = (own ≡ Err cause) ⊎ ((server : ℕ) × (slice_get results server ≡ Some (Err cause)))
 
--- The cause by which a run ends is that of a thread, and none comes before it; there is none only where no thread ended by a cause.
+-- The cause by which a run ends is that of a thread, and none is before it; there is none only if no thread ended by a cause.
 abbrev pub IsLeast : {T : Type 0} → Result (Unit {0}) Ended → List (Result T Ended) → Result (Unit {0}) Ended → Type 0
 IsLeast {T} own results (Ok nothing) = (cause : Ended) → IsCause own results cause → ⊥
 IsLeast {T} own results (Err least) = IsCause own results least × ((cause : Ended) → IsCause own results cause → rank_of least ≤ rank_of cause)
@@ -29,12 +29,12 @@ abbrev pub EndsCaller : Ended → Type 0
 EndsCaller GateShut = ⊥
 EndsCaller cause = Unit {0}
 
--- why a run ends: where the gate is shut, it refused one of so many servers
+-- why a run ends: if the gate is shut, it refused one of this number of servers
 abbrev pub EndsRun : ℕ → (ℕ → ℕ → Type 0) → (ℕ → ℕ → Type 0) → Ended → Type 0
 EndsRun servers lets refuses GateShut = (server : ℕ) × (server < servers) × WasRefused (lets server) (refuses server)
 EndsRun servers lets refuses cause = Unit {0}
 
--- what is answered for a cause: a thread is stopped only where another one failed
+-- the error that a run returns for a cause: a thread is stopped only if another one failed
 abbrev pub told_of : Ended → ThreadsError
 told_of GateShut = errors.GateShut
 told_of EndsDiffer = errors.EndsDiffer

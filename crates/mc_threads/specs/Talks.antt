@@ -1,4 +1,4 @@
--- Where the caller's thread is, between its clients and its ends of the rings.
+-- The state of the caller's thread, between its clients and its ends of the rings.
 use Rattle.std.specs.Prelude.{ℕ, ◌≡◌, ◌<◌, ◌+◌, true, List, [], ◌++◌, length, map, Some, All, codes}
 use Rattle.rtrb.specs.Ring.{sent, received}
 use Rattle.mc_ring.specs.Rings.{IsRing, RingState}
@@ -16,8 +16,9 @@ use Rattle.mc_threads.specs.declared.links.Ends.{Ends}
 abbrev pub IsOpen : ProxyState → ℕ → Type 0
 IsOpen proxy client = (session : SessionState) × (session_at proxy client ≡ Some session)
 
--- A proxy over the servers of a ring, whose links are up and were never lost, and whose choice for lost commands is `Told`: so many
--- clients were admitted, which sent these texts and were moved these outputs; to and from each server these bytes went and came.
+-- A proxy over the servers of a ring, whose links are up and were never lost, and whose choice for lost commands is `Told`. This
+-- number of clients were admitted, which sent these texts, and to which these outputs were moved. These bytes were sent to each
+-- server and received from it.
 pub record Talks (ring : RingState) (clients : ℕ) (texts outs went came : ℕ → List ℕ) (proxy : ProxyState) : Type 0 where
   pub order : Order
   pub lanes : ℕ → Lane
@@ -34,35 +35,35 @@ pub record Talks (ring : RingState) (clients : ℕ) (texts outs went came : ℕ 
   pub went_is : (server : ℕ) → (lanes server).out ≡ went server
   pub came_is : (server : ℕ) → (lanes server).came ≡ came server
 
--- what went to each server and came from it, by the caller's ends of the rings
+-- the bytes that were sent to each server and received from it, by the caller's ends of the rings
 abbrev pub went_to : List Ends → ℕ → List ℕ
 went_to ends = at (map (λ (e : Ends). sent e.to) ends)
 
 abbrev pub came_from : List Ends → ℕ → List ℕ
 came_from ends = at (map (λ (e : Ends). received e.from) ends)
 
--- the same of a whole round: what the clients were moved is in these outputs
+-- the state of a whole round: the clients' bytes were moved to these outputs
 abbrev pub RunTalks : RingState → ℕ → (ℕ → List ℕ) → List Bytes → List Ends → ProxyState → Type 0
 RunTalks ring clients texts outputs ends proxy = Talks ring clients texts (outs_of outputs) (went_to ends) (came_from ends) proxy
 
--- of a client all that came was taken, answered and moved
+-- all requests of a client that arrived were taken, answered and moved
 pub record IsAnswered (proxy : ProxyState) (client : ℕ) : Type 0 where
   pub taken : waiting_of (session_at proxy client) ≡ []
   pub answered : unanswered_of (session_at proxy client) ≡ 0
   pub moved : output_of (session_at proxy client) ≡ []
 
--- nothing is to be sent to a server, and nothing is awaited from it
+-- no bytes are left to send to a server, and no reply is pending from it
 pub record IsSilent (proxy : ProxyState) (server : ℕ) : Type 0 where
   pub sent : (link_at proxy.links server).output ≡ []
   pub none_waits : (link_at proxy.links server).waiting ≡ []
 
--- so it is of all clients and all servers
+-- all clients are answered, and all servers silent
 pub record IsQuiet (clients servers : ℕ) (proxy : ProxyState) : Type 0 where
   pub answered : (client : ℕ) → client < clients → IsAnswered proxy client
   pub silent : (server : ℕ) → server < servers → IsSilent proxy server
 
--- What the calls of the caller's thread do, whatever texts, outputs and ends: those that move no byte; replies of a server;
--- a piece of a client's text; a client more, with its text; each link moves bytes; each client is moved bytes; and all of a round.
+-- What the calls of the caller's thread do, whatever texts, outputs and ends: those that move no byte; replies of a server; a piece
+-- of a client's text; one more client, with its text; each link moves bytes; bytes are moved to each client; and all of a round.
 abbrev pub StillTalks : ProxyState → ProxyState → Type 0
 StillTalks old new =
     (ring : RingState) (clients : ℕ) (texts outs went came : ℕ → List ℕ) → Talks ring clients texts outs went came old
@@ -98,12 +99,12 @@ HasRound outputs outputs' ends ends' old new =
     (ring : RingState) (clients : ℕ) (texts : ℕ → List ℕ) → length ends ≡ length ring.servers
     → RunTalks ring clients texts outputs ends old → RunTalks ring clients texts outputs' ends' new
 
--- `quit` was sent to each of so many servers, and nothing else
+-- `quit` was sent to each of this number of servers, and nothing else
 pub record HasQuit (servers : ℕ) (ends now : List Ends) : Type 0 where
   pub went : (server : ℕ) → server < servers → went_to now server ≡ went_to ends server ++ codes "quit\r\n"
   pub came : (server : ℕ) → came_from now server ≡ came_from ends server
 
--- The caller's thread is through: all is answered, and `quit` was sent to each server after all that its link sent.
+-- The caller's thread is done: all is answered, and `quit` was sent to each server after all that its link sent.
 pub record IsEnded (ring : RingState) (clients : ℕ) (texts : ℕ → List ℕ) (outputs : List Bytes) (ends : List Ends) (proxy : ProxyState) : Type 0 where
   pub went : ℕ → List ℕ
   pub talks : Talks ring clients texts (outs_of outputs) went (came_from ends) proxy

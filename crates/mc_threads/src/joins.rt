@@ -14,7 +14,8 @@ use std::alloc::Global;
 use std::sync::atomic::{AtomicBool, Ordering};
 use std::thread::{Promise, PromisedHandle, Threads};
 
-/// Joins all workers, once the caller's thread has ended: the least cause of all threads, if one failed. What each worker ended with is kept.
+/// Joins all workers, once the caller's thread has ended, and returns the least cause of all threads, if one failed. Each worker's result is
+/// kept.
 #[tactic(auto, using(crate::proofs::LeastLemmas::least_new))]
 pub fn join_all<T: Drop, P: Promise<Result<T, Ended>>, R: Threads>(
     rt: &R,
@@ -42,7 +43,7 @@ pub fn join_all<T: Drop, P: Promise<Result<T, Ended>>, R: Threads>(
     least
 }
 
-/// Brings both ends of both rings of a worker together: nothing is on the way.
+/// Brings both ends of both rings of a worker together: no byte is on the way.
 fn settle<C: Drop>(done: Done<C>, ends: &mut Ends) -> Result<C, Ended>
     requires { AreEndsOf ends.old done }
     ensures clock { IfOk result (λ clock. clock ≡ done.clock) }
@@ -61,7 +62,7 @@ fn settle<C: Drop>(done: Done<C>, ends: &mut Ends) -> Result<C, Ended>
     Ok(clock)
 }
 
-/// Brings the ends of all workers' rings together, and gives the workers' clocks.
+/// Brings the ends of all workers' rings together, and returns the workers' clocks.
 pub fn settle_all<C: Clock + Drop>(
     alloc: Global,
     results: Vec<Result<Done<C>, Ended>>,

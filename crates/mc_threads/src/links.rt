@@ -18,7 +18,7 @@ pub struct Ends {
     pub from: Consumer<u8>,
 }
 
-/// Moves what there is to move over one link, both ways: what fits of what it is to send, and what came from its server.
+/// Moves bytes over one link, both ways: those to its server that fit, and those that arrived from it.
 pub fn exchange(
     proxy: &mut Proxy,
     ends: &mut Ends,
@@ -37,7 +37,7 @@ pub fn exchange(
     Ok(())
 }
 
-/// Takes a reply of the server of a place, where one has come whole: whether it did.
+/// Takes a reply of the server of a place, if a whole one has arrived, and returns whether it did.
 fn take_reply(proxy: &mut Proxy, place: usize) -> Result<bool, Ended>
     ensures { MatchResult result (λ _. HasReplied place proxy.old proxy.new) (λ cause. EndsCaller cause) }
 {
@@ -48,7 +48,7 @@ fn take_reply(proxy: &mut Proxy, place: usize) -> Result<bool, Ended>
     }
 }
 
-/// Takes the replies of the server of a place that have come whole, at most [`AT_ONCE`].
+/// Takes the replies of the server of a place that have arrived whole, at most [`AT_ONCE`].
 pub fn take_replies(proxy: &mut Proxy, place: usize) -> Result<(), Ended>
     ensures { MatchResult result (λ _. HasReplied place proxy.old proxy.new) (λ cause. EndsCaller cause) }
 {
@@ -73,7 +73,7 @@ pub fn ask_some(proxy: &mut Proxy, client: u64) -> Result<(), Ended>
     Ok(())
 }
 
-/// Puts the answers out to a client that are known, at most [`AT_ONCE`].
+/// Emits the known answers to a client, at most [`AT_ONCE`].
 pub fn answer_some(proxy: &mut Proxy, client: u64) -> Result<(), Ended>
     ensures { MatchResult result (λ _. StillTalks proxy.old proxy.new) (λ cause. cause ≡ Ended.Memory) }
 {
@@ -86,7 +86,7 @@ pub fn answer_some(proxy: &mut Proxy, client: u64) -> Result<(), Ended>
     Ok(())
 }
 
-/// Moves all that was put out to a client.
+/// Moves all bytes that were emitted to a client to its output.
 pub fn move_out(proxy: &mut Proxy, output: &mut Vec<u8>, client: u64) -> Result<(), Ended>
     ensures { MatchResult result (λ _. IsMoved client proxy.old proxy.new output.old.items output.new.items) (λ cause. cause ≡ Ended.Memory) }
 {

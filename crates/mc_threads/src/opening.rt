@@ -8,7 +8,7 @@ use mc_proxy::Proxy;
 use mc_ring::Ring;
 use std::alloc::{AllocError, Global};
 
-/// A proxy whose links are all up, and which was fed all that the clients send.
+/// A proxy whose links are all up, and which was fed all bytes that the clients send.
 pub fn opened_proxy(alloc: Global, ring: &Ring, inputs: &[Vec<Vec<u8>>]) -> Result<Proxy, Ended>
     ensures { MatchResult result (λ proxy. Talks ring.now (length inputs.now) (texts_of inputs.now) (λ _. []) (λ _. []) (λ _. []) proxy) (λ cause. cause ≡ Ended.Memory) }
 {

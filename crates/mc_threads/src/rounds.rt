@@ -15,7 +15,7 @@ use std::sync::Wait;
 use std::sync::atomic::{AtomicBool, Ordering};
 use std::thread;
 
-/// Each client may have requests taken.
+/// Takes requests of each client that need not wait.
 fn ask_all(proxy: &mut Proxy, clients: usize) -> Result<(), Ended>
     ensures { MatchResult result (λ _. StillTalks proxy.old proxy.new) (λ cause. cause ≡ Ended.Memory) }
 {
@@ -25,7 +25,7 @@ fn ask_all(proxy: &mut Proxy, clients: usize) -> Result<(), Ended>
     Ok(())
 }
 
-/// Each link moves what there is to move, and may have replies taken.
+/// Moves bytes over each link, and takes the replies of each.
 fn carry_all(proxy: &mut Proxy, ends: &mut Vec<Ends>, buffer: &mut Vec<u8>) -> Result<(), Ended>
     ensures len { vec_len ends.new ≡ vec_len ends.old }
     ensures rings { OnOk result (Each2 SameEnds (vec_len ends.old) ends.old.items ends.new.items) }
@@ -39,7 +39,7 @@ fn carry_all(proxy: &mut Proxy, ends: &mut Vec<Ends>, buffer: &mut Vec<u8>) -> R
     Ok(())
 }
 
-/// Each client may be answered.
+/// Emits the known answers to each client, and moves them to its output.
 fn answer_all(proxy: &mut Proxy, outputs: &mut Vec<Vec<u8>>) -> Result<(), Ended>
     ensures len { vec_len outputs.new ≡ vec_len outputs.old }
     ensures answered { OnOk result (HasAnswered outputs.old.items outputs.new.items proxy.old proxy.new) }
@@ -52,7 +52,7 @@ fn answer_all(proxy: &mut Proxy, outputs: &mut Vec<Vec<u8>>) -> Result<(), Ended
     Ok(())
 }
 
-/// One round: each client may have requests taken, each link moves what there is to move, each client may be answered.
+/// One round: takes requests of each client, moves bytes over each link, and answers each client.
 fn round(
     proxy: &mut Proxy,
     ends: &mut Vec<Ends>,
@@ -69,14 +69,14 @@ fn round(
     answer_all(proxy, outputs)
 }
 
-/// Whether all that came of a client is answered.
+/// Whether all requests that arrived from a client are answered.
 fn is_answered(proxy: &Proxy, client: u64) -> bool
     ensures { IsTrue result → IsAnswered proxy.now client }
 {
     !proxy.ready(client) && proxy.unanswered(client) == 0 && proxy.output(client).is_empty()
 }
 
-/// Whether all that came of all clients is answered.
+/// Whether all requests that arrived from all clients are answered.
 fn are_answered(proxy: &Proxy, clients: usize) -> bool
     ensures { IsTrue result → ((client : ℕ) → client < clients → IsAnswered proxy.now client) }
 {
@@ -88,14 +88,14 @@ fn are_answered(proxy: &Proxy, clients: usize) -> bool
     true
 }
 
-/// Whether nothing is to be sent to a server, and nothing is awaited from it.
+/// Whether no bytes are left to send to a server, and no reply is pending from it.
 fn is_silent(proxy: &Proxy, place: usize) -> bool
     ensures { IsTrue result → IsSilent proxy.now place }
 {
     proxy.waiting(place) == 0 && proxy.link_output(place).is_empty()
 }
 
-/// Whether nothing is to be sent to any server, and nothing is awaited from any.
+/// Whether no bytes are left to send to any server, and no reply is pending from any.
 fn are_silent(proxy: &Proxy, servers: usize) -> bool
     ensures { IsTrue result → ((server : ℕ) → server < servers → IsSilent proxy.now server) }
 {
@@ -107,14 +107,14 @@ fn are_silent(proxy: &Proxy, servers: usize) -> bool
     true
 }
 
-/// Whether all is answered.
+/// Whether all requests are answered, and no server has bytes or commands pending.
 fn is_quiet(proxy: &Proxy, clients: usize, servers: usize) -> bool
     ensures { IsTrue result → IsQuiet clients servers proxy.now }
 {
     are_answered(proxy, clients) && are_silent(proxy, servers)
 }
 
-/// Rounds until all is answered, then `quit` to each server.
+/// Does rounds until all is answered, then sends `quit` to each server.
 pub fn talk<R: Wait>(
     rt: &R,
     stop: &AtomicBool,
@@ -143,7 +143,7 @@ pub fn talk<R: Wait>(
     unreachable!()
 }
 
-/// Sends `quit` to a server once there is room.
+/// Sends `quit` to a server once its ring has room.
 fn close_one<R: Wait>(rt: &R, stop: &AtomicBool, ends: &mut Ends) -> Result<(), Ended>
     ensures rings { OnOk result (SameEnds ends.old ends.new) }
     ensures quit { OnOk result (sent ends.new.to ≡ sent ends.old.to ++ codes "quit\r\n") }

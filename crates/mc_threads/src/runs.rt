@@ -34,16 +34,16 @@ pub struct PoolConfig {
     pub items: usize,
 }
 
-/// What each client was answered, and the clocks.
+/// The answers to each client, and the clocks.
 #[derive(Drop)]
 pub struct Ran<C> {
     /// The answers to each client's requests.
     pub outputs: Vec<Vec<u8>>,
-    /// The clocks of the servers, in the order in which they were handed in.
+    /// The clocks of the servers, in the order in which they were given.
     pub clocks: Vec<C>,
 }
 
-/// Outputs with no byte, for so many clients.
+/// Empty outputs, for this number of clients.
 fn empty_outputs(alloc: Global, clients: usize) -> Result<Vec<Vec<u8>>, Ended>
     ensures len { IfOk result (λ outputs. vec_len outputs ≡ clients) }
     ensures empty { IfOk result (λ outputs. (client : ℕ) → outs_of outputs.items client ≡ []) }
@@ -106,14 +106,14 @@ fn run_in<'s, E: 's, C: Clock + Send + Drop + 's, G: Gate + Sync, R: Threads + W
     Ok(Ran { outputs, clocks })
 }
 
-/// Runs a pool until all requests of its clients are answered: a server on a thread of its own for each clock, and the proxy on the
-/// caller's thread, with two rings of 65,536 bytes for each link.
+/// Runs a pool until all requests of its clients are answered. For each clock it has a server on a thread of its own; the proxy is on
+/// the caller's thread, with two rings of 65,536 bytes for each link.
 ///
-/// `inputs` has the pieces of each client's text. Each server takes a request only where the gate lets it, at the next moment of its
-/// own clock. At the end it is sent `quit`, which it takes as any other request. The account says what each client is answered and what
-/// each clock gave.
+/// `inputs` has the pieces of each client's text. Each server takes a request only if the gate lets it, at the next moment of its own
+/// clock. At the end it is sent `quit`, which it takes as any other request. The account gives the answers to each client and the
+/// moments of each clock.
 ///
-/// At an error no output is handed out, and the clocks are dropped. This call may wait, and it does so for as long as the gate refuses.
+/// At an error no output is returned, and the clocks are dropped. This call may wait, and waits as long as the gate refuses.
 pub fn run_threads<C: Clock + Send + Drop, G: Gate + Sync, R: Threads + Wait + Time + Sync>(
     rt: &R,
     alloc: Global,

@@ -1,14 +1,14 @@
-//! Measures how fast a server takes bytes that come in pieces.
+//! Measures how fast a server takes bytes that arrive in pieces.
 //!
-//! With no argument more each case runs at a thousandth of its size, and its line tells how many bytes were fed and how
-//! many answered. With the argument `measure` each case runs at full size, and its line tells the speed too. After
-//! each case is the same at a tenth of the size: the time for a byte is to be the same. With the argument `ring`
-//! it is measured how fast a ring finds the owners of keys, and with `store` how fast a cache answers over each store.
+//! Without a further argument each case runs at a thousandth of its size, and its line has the number of bytes that were fed and
+//! of those that were answered. With the argument `measure` each case runs at full size, and its line has the speed too. After
+//! each case it runs again at a tenth of the size: the time for a byte should be equal. The argument `ring` measures how fast a
+//! ring finds the owners of keys, and `store` how fast a cache answers over each store.
 //!
-//! `case KIND SIZE PIECE` runs one case alone, and `load KIND SIZE PIECE` only makes what its client would send. So a tool
-//! that counts instructions tells what a request costs: the difference of two sizes of the one, less that of the other.
-//! `link GETS SIZE PIECE` carries so many gets over one link, whose values have so many bytes, and hears the server in pieces.
-//! `hold ITEMS` makes a cache that holds so many items and no more: the memory that two such runs took tells what an item takes.
+//! `case KIND SIZE PIECE` runs one case alone, and `load KIND SIZE PIECE` only makes what its client would send. So a tool that
+//! counts instructions measures the cost of a request: the difference of two sizes of `case`, less that of `load`.
+//! `link GETS SIZE PIECE` sends this number of gets over one link, whose values have SIZE bytes, and reads the server's bytes in pieces.
+//! `hold ITEMS` makes a cache that stores exactly ITEMS items: the memory of two such runs shows the cost of an item.
 
 use crate::cases::{CASES, Case, Kind};
 use crate::figures::Figures;
@@ -17,10 +17,10 @@ use anyhow::{Context, bail};
 use std::env::Args;
 use std::time::Instant;
 
-/// What a run without an argument divides the sizes by.
+/// The number that a run without an argument divides the sizes by.
 const QUICK: u64 = 1_000;
 
-/// Measures what the arguments say.
+/// Measures what the arguments ask for.
 pub fn measure(rt: &HostRuntime, arguments: &mut Args) -> anyhow::Result<()> {
     let Some(mode) = arguments.next() else {
         return measure_little(rt);
@@ -49,7 +49,7 @@ fn number(arguments: &mut Args, missing: &'static str) -> anyhow::Result<u64> {
     Ok(arguments.next().context(missing)?.parse()?)
 }
 
-/// Carries gets over one link, as the arguments say.
+/// Sends gets over one link, as the arguments ask.
 fn play_link(rt: &HostRuntime, arguments: &mut Args) -> anyhow::Result<()> {
     let gets = number(arguments, "no gets")?;
     let size = number(arguments, "no size")?;
@@ -57,7 +57,7 @@ fn play_link(rt: &HostRuntime, arguments: &mut Args) -> anyhow::Result<()> {
     links::measure(rt, gets, size as usize, piece as usize)
 }
 
-/// The case that the arguments say.
+/// The case that the arguments name.
 fn case_of(arguments: &mut Args) -> anyhow::Result<Case> {
     let kind = arguments
         .next()
@@ -92,7 +92,7 @@ fn run_all(rt: &HostRuntime, parts: u64, is_timed: bool) -> anyhow::Result<()> {
     Ok(())
 }
 
-/// Runs a case at a part of its size and prints what was fed and answered, and the speed where the run is timed.
+/// Runs a case at a part of its size and prints what was fed and answered, and the speed if the run is timed.
 fn run(rt: &HostRuntime, case: &Case, parts: u64, is_timed: bool) -> anyhow::Result<()> {
     let load = case.load(rt.alloc(), parts)?;
     let start = Instant::now(rt)?;

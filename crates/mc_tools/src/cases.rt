@@ -4,7 +4,7 @@ use crate::loads::Load;
 use mc_text::VALUE_LIMIT;
 use std::alloc::{AllocError, Global};
 
-/// What a client sends, and in which pieces.
+/// The bytes that a client sends, and the size of their pieces.
 #[derive(Clone, Copy)]
 pub struct Case {
     pub kind: Kind,
@@ -12,8 +12,8 @@ pub struct Case {
     pub size: u64,
     /// The bytes of a piece.
     pub piece: usize,
-    /// Whether the caller asks before each turn, and turns only where the server is ready. Else it lets the server take
-    /// turns after each piece until one finds nothing to take.
+    /// Whether the caller asks before each turn, and turns only if the server is ready. Otherwise it lets the server
+    /// take turns after each piece until one finds nothing to take.
     pub asks_first: bool,
 }
 
@@ -21,22 +21,22 @@ pub struct Case {
 pub enum Kind {
     /// Sets under sixteen keys.
     SmallSets,
-    /// Sets of one held key.
+    /// Sets of one stored key.
     SetsOfOneKey,
     Block,
     /// A block of more bytes than a value has.
     RefusedBlock,
-    /// Gets of one held key.
+    /// Gets of one stored key.
     Gets,
-    /// Increments of one held number.
+    /// Increments of one stored number.
     Increments,
-    /// One get of so many held keys.
+    /// One get of many stored keys.
     GetOfKeys,
-    /// `mg` of one held key, which shows its value.
+    /// `mg` of one stored key, which shows its value.
     MetaGets,
-    /// `ms` of one held key.
+    /// `ms` of one stored key.
     MetaSets,
-    /// Quiet `mg` of a key that is not held.
+    /// Quiet `mg` of a missing key.
     QuietMisses,
 }
 
@@ -82,8 +82,8 @@ impl Kind {
 const SET: &[u8] = b"set a 0 0 5\r\nhello\r\n";
 
 impl Case {
-    /// What the client sends, at one of so many parts of the size. A refused block keeps the least size that is
-    /// refused.
+    /// The bytes that the client sends, at one of `parts` parts of the size. A refused block keeps the least size that
+    /// is refused.
     pub fn load(&self, alloc: Global, parts: u64) -> Result<Load, AllocError> {
         let size = self.size / parts.max(1);
         let (what, first, then): (&str, &[u8], &[u8]) = match self.kind {

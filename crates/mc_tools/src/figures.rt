@@ -1,4 +1,4 @@
-//! What a run gave.
+//! The figures of a run.
 ghost use Rattle.std.specs.Prelude.{◌<◌};
 
 use crate::cases::Case;
@@ -8,7 +8,7 @@ use mc_server::ServerError;
 use std::alloc::{AllocError, Global};
 use std::time::Duration;
 
-/// The bytes that were fed and those that were answered.
+/// The number of bytes that were fed, and of those that were answered.
 #[derive(Clone, Copy)]
 pub struct Figures {
     fed: u64,
@@ -16,7 +16,7 @@ pub struct Figures {
 }
 
 impl Figures {
-    /// Feeds a new server what a client sends, in the case's pieces.
+    /// Feeds a new server the bytes of a client, in the case's pieces.
     pub fn of_run(alloc: Global, load: &Load, case: &Case) -> Result<Figures, ServerError> {
         let mut served = Served::new(alloc)?;
         let mut figures = Figures {
@@ -37,7 +37,7 @@ impl Figures {
         Ok(())
     }
 
-    /// Feeds so many bytes `x` in pieces, which are made once.
+    /// Feeds this number of bytes `x` in pieces, which are made once.
     fn feed_fill(
         &mut self,
         alloc: Global,
@@ -54,7 +54,7 @@ impl Figures {
         self.feed(served, rest, case)
     }
 
-    /// Feeds a piece and counts.
+    /// Feeds a piece, and counts its bytes and those of the answers.
     fn serve(&mut self, served: &mut Served, piece: &[u8], case: &Case) -> Result<(), ServerError> {
         let answered = served.serve(piece, case.asks_first)?;
         self.fed = self.fed.saturating_add(piece.len() as u64);
@@ -62,7 +62,7 @@ impl Figures {
         Ok(())
     }
 
-    /// What was run, and how many bytes were fed and answered.
+    /// The name of a run, and how many bytes were fed and answered.
     pub fn line(&self, alloc: Global, load: &Load, case: &Case) -> Result<String, AllocError> {
         let asked = if case.asks_first { ", asked first" } else { "" };
         format!(in alloc;
@@ -71,7 +71,8 @@ impl Figures {
         )
     }
 
-    /// The speed of a run that took this time: bytes in a second, and how long a byte takes, from what 10,000 do.
+    /// The speed of a run that took this time: bytes in a second, and the time for a byte, computed from that for
+    /// 10,000.
     pub fn speed(&self, alloc: Global, time: Duration) -> Result<String, AllocError> {
         let nanos = nanos(time);
         let per_second = self.fed.saturating_mul(1_000_000_000) / nanos;

@@ -1,9 +1,9 @@
-//! What is lent to a run on threads: clocks, and a gate.
+//! What a run on threads borrows: clocks, and a gate.
 
 use crate::thread_loads::MOMENT;
 use mc_threads::{Clock, Gate};
 
-/// A clock that gives one moment again and again.
+/// A clock that gives one moment repeatedly.
 #[derive(Drop)]
 pub struct Ticks {
     pub times: Vec<u64>,

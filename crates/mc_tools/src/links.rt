@@ -1,4 +1,5 @@
-//! How fast the parts of a proxy carry gets: from a client's bytes to what a server is sent, and from its bytes to the answer.
+//! How fast the parts of a proxy forward gets: from a client's bytes to the bytes for a server, and from its bytes to the
+//! answer.
 
 use anyhow::Context;
 use mc_codec::spelled_len;
@@ -10,7 +11,7 @@ use mc_route::{Outcome, Routed, join, route};
 use std::alloc::{AllocError, Global};
 use std::collections::VecDeque;
 
-/// How many gets are under way at a time.
+/// How many gets are in flight at a time.
 const BATCH: u64 = 100;
 
 /// One client's requests over one link.
@@ -19,16 +20,16 @@ struct Lane {
     reader: Reader,
     ring: Ring,
     link: Link,
-    /// The commands of the request that is taken. Its memory is kept.
+    /// The commands of the request that was taken. Its memory is kept.
     routed: VecDeque<Routed>,
-    /// What stays of the requests under way, the oldest first.
+    /// The parts of the requests in flight that their answers need, the oldest first.
     requests: Vec<Taken>,
-    /// What the client is answered.
+    /// The answers to the client.
     answers: Vec<u8>,
 }
 
-/// Plays gets, of which each finds a value of so many bytes, with the server's bytes in pieces. It prints how many bytes the
-/// server was sent, and how many the client was answered.
+/// Plays gets, each of which finds a value of `value` bytes, with the server's bytes in pieces. It prints how many bytes were
+/// sent to the server, and how many to the client.
 pub fn measure(rt: &HostRuntime, gets: u64, value: usize, piece: usize) -> anyhow::Result<()> {
     let alloc = rt.alloc();
     let batch = gets.min(BATCH);
@@ -57,7 +58,7 @@ impl Lane {
         })
     }
 
-    /// Plays a batch so often, and says how many bytes were sent and answered.
+    /// Plays a batch repeatedly, and returns how many bytes were sent and answered.
     fn play(
         &mut self,
         alloc: Global,
@@ -75,7 +76,7 @@ impl Lane {
         Ok((sent, answered))
     }
 
-    /// Reads the client's bytes, sends each command, and says how many bytes were sent.
+    /// Reads the client's bytes, sends each command, and returns how many bytes were sent.
     fn send(&mut self, alloc: Global, asked: &[u8]) -> anyhow::Result<u64> {
         self.reader.feed(asked)?;
         for _ in 0..asked.len() {
@@ -89,7 +90,7 @@ impl Lane {
         Ok(sent as u64)
     }
 
-    /// Takes the first request, and says whether there was one. None where there is no memory: an [`anyhow::Error`] has
+    /// Takes the first request, and returns whether there was one; `None` if memory is refused. An [`anyhow::Error`] has
     /// hundreds of bytes, which each call would move.
     #[inline(never)]
     fn take(&mut self, alloc: Global) -> Option<bool> {
@@ -105,7 +106,7 @@ impl Lane {
         Some(true)
     }
 
-    /// Sends the commands of the request that was taken last. None where there is no memory, or the link is down.
+    /// Sends the commands of the request that was taken last. It returns `None` if memory is refused, or the link is down.
     #[inline(never)]
     fn send_routed(&mut self) -> Option<()> {
         let request = self.requests.len().saturating_sub(1) as u64;
@@ -122,7 +123,7 @@ impl Lane {
         Some(())
     }
 
-    /// Reads the server's bytes, answers each request, and says how many bytes the answers have.
+    /// Reads the server's bytes, answers each request, and returns how many bytes the answers have.
     fn hear(&mut self, alloc: Global, came: &[u8], piece: usize) -> anyhow::Result<u64> {
         for bytes in came.chunks(piece.max(1)) {
             self.link.feed(bytes)?;
@@ -138,7 +139,8 @@ impl Lane {
         Ok(answered as u64)
     }
 
-    /// Answers the request of the next reply, and says whether one came. None where there is no memory, or the reply is strange.
+    /// Answers the request of the next reply, and returns whether one arrived; `None` if memory is refused, or the reply is a
+    /// protocol violation.
     fn answer_next(&mut self, alloc: Global) -> Option<bool> {
         match self.link.turn(alloc).ok()? {
             LinkTurn::Took(tag, reply) => {
@@ -159,7 +161,7 @@ impl Lane {
     }
 }
 
-/// So many gets of a key of 20 bytes.
+/// This number of gets of a key of 20 bytes.
 fn asked(alloc: Global, gets: u64) -> Result<Vec<u8>, AllocError> {
     b"get key:0000000000000001\r\n".repeat(alloc, gets as usize)
 }

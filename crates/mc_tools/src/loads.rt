@@ -1,13 +1,14 @@
-//! What a client sends.
+//! The bytes that a client sends.
 ghost use Rattle.std.specs.Prelude.{◌≡◌, ◌++◌, codes, decimal, IfOk};
 
 use mc_text::VALUE_LIMIT;
 use std::alloc::{AllocError, Global};
 
-/// What a client sends: a head, so many bytes `x`, and a tail. The bytes `x` are made piece by piece.
+/// The bytes that a client sends: a head, a number of bytes `x`, and a tail. The bytes `x` are made
+/// piece by piece.
 #[derive(Drop)]
 pub struct Load {
-    /// What it is, in words.
+    /// Its description in words.
     pub name: String,
     pub head: Vec<u8>,
     pub fill: u64,
@@ -15,7 +16,7 @@ pub struct Load {
 }
 
 impl Load {
-    /// So many sets of five bytes, under sixteen keys.
+    /// `count` sets of five bytes, under sixteen keys.
     pub fn small_sets(alloc: Global, count: u64) -> Result<Load, AllocError> {
         Ok(Load {
             name: format!(in alloc; "{count} small sets")?,
@@ -25,7 +26,7 @@ impl Load {
         })
     }
 
-    /// Sets of so many values of five bytes, and one get of all their keys.
+    /// Sets of `count` values of five bytes, and one get of all their keys.
     pub fn get_of_keys(alloc: Global, count: u64) -> Result<Load, AllocError> {
         let mut tail = Vec::from_slice(alloc, b"get")?;
         for number in 0..count {
@@ -41,7 +42,7 @@ impl Load {
         })
     }
 
-    /// One request, and then so many times another.
+    /// One request, and then another, `count` times.
     pub fn repeated(
         alloc: Global,
         what: &str,
@@ -59,7 +60,7 @@ impl Load {
         })
     }
 
-    /// A set of one block of so many bytes. It is refused where it has more bytes than a value.
+    /// A set of one block of `size` bytes. It is refused if it has more bytes than a value may have.
     pub fn block(alloc: Global, size: u64) -> Result<Load, AllocError>
         ensures line { IfOk result (λ load. load.head.items ≡ codes "set a 0 0 " ++ decimal size ++ codes "\r\n") }
         ensures block { IfOk result (λ load. load.fill ≡ size) }
@@ -80,7 +81,7 @@ impl Load {
     }
 }
 
-/// So many sets of five bytes, under so many keys in turn, which are named so.
+/// `count` sets of five bytes, under this number of keys in turn, with this name.
 fn sets(alloc: Global, name: &str, keys: u64, count: u64) -> Result<Vec<u8>, AllocError> {
     let mut sets = Vec::new(alloc);
     for number in 0..count {

@@ -1,8 +1,8 @@
-//! Tools: what measures speed, and what tests compare with models of their own. No program uses them.
+//! Tools that measure speed, and tools that tests compare with models of their own. No program uses them.
 //!
-//! `bench ..` measures how fast a server takes bytes (`bench.rt`), `threads ..` plays a load over a pool on threads and on one thread
-//! (`threads.rt`), and `read_back` spells commands and reads replies back (`read_back.rt`). With no argument each of them does the
-//! least that it does, the last one first.
+//! `bench ..` measures how fast a server takes bytes (`bench.rt`). `threads ..` plays a load over a pool on threads and on one thread
+//! (`threads.rt`). `read_back` encodes commands and decodes replies (`read_back.rt`). Without arguments each of them runs at its
+//! smallest size, the last one first.
 #![tactic(auto)]
 
 mod bench;

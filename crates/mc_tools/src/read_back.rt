@@ -1,11 +1,12 @@
-//! Spells commands, and reads replies to them back.
+//! Encodes commands, and decodes replies to them.
 //!
 //! Each line of standard input is a case: words in hexadecimal digits, with a space between. The first is the text of a
-//! request, and the others are what comes in answer to the first of its commands, piece by piece. What is printed for a
-//! case is a line again: the command's canonical spelling, and after each piece what a reader of replies then gives: each
-//! reply by its spelling, and last `more` or `strange`. A text whose first is no request with a command is `none`.
+//! request. The others are the bytes that arrive in answer to the first of its commands, piece by piece. The printed line
+//! of a case has the command's canonical spelling. After each piece it has what a reader of replies then returns: each
+//! reply by its spelling, and last `more` or `strange`. If a text has no first request with a command, the line is
+//! `none`.
 //!
-//! So a model of spellings and replies that was written by itself can be compared with this project's.
+//! So this project's spellings and replies can be compared with a model that was written independently.
 
 use crate::spelled_cases::play_line;
 use std::io::{self, Read, Write};

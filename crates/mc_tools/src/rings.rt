@@ -14,8 +14,8 @@ const KEYS: u64 = 1_024;
 /// How often each key is looked up.
 const ROUNDS: u64 = 4_000;
 
-/// Prints how many owners a ring of 2, 16 and 64 servers finds in a second, and what part of the time goes to the keys'
-/// digests. The sums are printed so that no look-up can be left out.
+/// Prints how many owners a ring of 2, 16 and 64 servers finds in a second, and what part of the time the keys' digests
+/// take. The sums are printed so that the compiler can omit no look-up.
 pub fn measure(rt: &HostRuntime) -> anyhow::Result<()> {
     let keys = keys(rt.alloc())?;
     let start = Instant::now(rt)?;
@@ -31,7 +31,8 @@ pub fn measure(rt: &HostRuntime) -> anyhow::Result<()> {
     Ok(())
 }
 
-/// Prints the same of a ring of so many servers, where the digests of all keys took so many nanoseconds.
+/// Prints these figures for a ring of this number of servers, if the digests of all keys took this number of
+/// nanoseconds.
 fn measure_owners(
     rt: &HostRuntime,
     servers: u64,
@@ -60,7 +61,7 @@ fn keys(alloc: Global) -> anyhow::Result<Vec<Key>> {
     Ok(keys)
 }
 
-/// A ring of so many servers.
+/// A ring of this number of servers.
 fn ring_of(alloc: Global, count: u64) -> anyhow::Result<Ring> {
     let mut servers = Vec::new(alloc);
     for number in 0..count {
@@ -70,7 +71,7 @@ fn ring_of(alloc: Global, count: u64) -> anyhow::Result<Ring> {
     Ok(Ring::new(alloc, &servers)?)
 }
 
-/// Looks all keys up, and gives the sum of their owners' places.
+/// Looks all keys up, and returns the sum of their owners' places.
 fn sum_of_owners(ring: &Ring, keys: &[Key]) -> u64 {
     let mut sum = 0u64;
     for _ in 0..ROUNDS {
@@ -81,7 +82,7 @@ fn sum_of_owners(ring: &Ring, keys: &[Key]) -> u64 {
     sum
 }
 
-/// Makes the digests of all keys, and gives the sum of their first bytes.
+/// Makes the digests of all keys, and returns the sum of their first bytes.
 fn sum_of_digests(keys: &[Key]) -> u64 {
     let mut sum = 0u64;
     for _ in 0..ROUNDS {
@@ -92,7 +93,7 @@ fn sum_of_digests(keys: &[Key]) -> u64 {
     sum
 }
 
-/// What one look-up took, in picoseconds.
+/// The time of one look-up, in picoseconds.
 fn each(nanos: u64) -> u64 {
     nanos.saturating_mul(1_000) / (KEYS * ROUNDS)
 }

@@ -1,4 +1,4 @@
-//! What is measured.
+//! The server that is measured.
 
 use mc_cache::Cache;
 use mc_item::CasCounter;
@@ -30,8 +30,8 @@ impl Served {
         Ok(Served { server, connection })
     }
 
-    /// Feeds a piece, and takes turns until nothing is left to take. Then the output is taken out, and this many
-    /// bytes it had.
+    /// Feeds a piece, and takes turns until nothing is left to take. Then it takes the output, and returns how
+    /// many bytes that had.
     pub fn serve(&mut self, piece: &[u8], asks_first: bool) -> Result<usize, ServerError> {
         self.server.feed(self.connection, piece)?;
         for _ in 0..u64::MAX {
@@ -44,7 +44,7 @@ impl Served {
         Ok(answered)
     }
 
-    /// Whether something was taken. A caller that asks first has no turn where there is nothing.
+    /// Whether something was taken. A caller that asks first takes no turn if nothing is pending.
     fn takes(&mut self, asks_first: bool) -> Result<bool, ServerError> {
         if asks_first && !self.server.ready(self.connection)? {
             return Ok(false);

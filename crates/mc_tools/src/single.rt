@@ -1,4 +1,4 @@
-//! The same pool on one thread.
+//! The pool of a threaded run, on one thread.
 
 use crate::tallies::Tally;
 use crate::thread_loads::{BUDGET, CLIENTS, ITEMS, MOMENT, ring_of};
@@ -16,7 +16,7 @@ const AT_ONCE: u64 = 256;
 /// A server over a hashed store, with one connection.
 type Served = Server<LruStore<FixedHasher>>;
 
-/// Answers what the clients send, by so many servers.
+/// Answers the requests of the clients, by this number of servers.
 pub fn play(alloc: Global, servers: u64, inputs: &[Vec<Vec<u8>>]) -> anyhow::Result<Tally> {
     let mut proxy = opened_proxy(alloc, servers, inputs)?;
     let mut served = opened_servers(alloc, servers)?;
@@ -30,7 +30,7 @@ pub fn play(alloc: Global, servers: u64, inputs: &[Vec<Vec<u8>>]) -> anyhow::Res
     Ok(Tally::of(outputs.as_slice()))
 }
 
-/// A proxy whose links are all up, to which all that the clients send has come.
+/// A proxy whose links are all up, and which was fed all bytes of the clients.
 fn opened_proxy(alloc: Global, servers: u64, inputs: &[Vec<Vec<u8>>]) -> anyhow::Result<Proxy> {
     let mut proxy = Proxy::new(alloc, ring_of(alloc, servers)?)?;
     for place in 0..servers {
@@ -51,7 +51,7 @@ fn admit(proxy: &mut Proxy, pieces: &Vec<Vec<u8>>) -> Result<(), ProxyError> {
     Ok(())
 }
 
-/// So many servers over empty caches.
+/// This number of servers over empty caches.
 fn opened_servers(alloc: Global, count: u64) -> anyhow::Result<Vec<Served>> {
     let mut servers = Vec::new(alloc);
     for _ in 0..count {
@@ -68,7 +68,7 @@ fn opened_server(alloc: Global) -> anyhow::Result<Served> {
     Ok(server)
 }
 
-/// An output with no byte for each client.
+/// An empty output for each client.
 fn empty_outputs(alloc: Global) -> Result<Vec<Vec<u8>>, AllocError> {
     let mut outputs = Vec::new(alloc);
     for _ in 0..CLIENTS {
@@ -77,7 +77,7 @@ fn empty_outputs(alloc: Global) -> Result<Vec<Vec<u8>>, AllocError> {
     Ok(outputs)
 }
 
-/// One round: each client may have requests taken, each server answers what came to it, each client may be answered.
+/// One round: takes requests of each client, lets each server answer the bytes that arrived, and answers each client.
 fn round(
     proxy: &mut Proxy,
     servers: &mut Vec<Served>,
@@ -106,7 +106,7 @@ fn ask(proxy: &mut Proxy, client: u64) -> Result<(), ProxyError> {
     Ok(())
 }
 
-/// Moves what is on the link of a place to its server, has it answered, and moves the answers back.
+/// Moves the bytes of the link of a place to its server, lets it answer, and moves the answers back.
 fn serve(proxy: &mut Proxy, place: usize, server: &mut Served) -> anyhow::Result<()> {
     let sent = proxy.link_output(place);
     let count = sent.len();
@@ -120,7 +120,7 @@ fn serve(proxy: &mut Proxy, place: usize, server: &mut Served) -> anyhow::Result
     Ok(())
 }
 
-/// Answers all requests that have come to a server.
+/// Answers all requests that have arrived at a server.
 fn take_requests(server: &mut Served) -> Result<(), ServerError> {
     for _ in 0..u64::MAX {
         if server.turn(0, MOMENT)? != Turn::Took {
@@ -142,7 +142,7 @@ fn take_replies(proxy: &mut Proxy, place: usize) -> anyhow::Result<()> {
     Ok(())
 }
 
-/// Answers a client as far as answers are known.
+/// Answers a client as far as its answers are known.
 fn answer(proxy: &mut Proxy, client: u64, output: &mut Vec<u8>) -> anyhow::Result<()> {
     for _ in 0..AT_ONCE {
         if proxy.emit(client)? != Emit::Done {

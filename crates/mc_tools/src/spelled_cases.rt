@@ -1,4 +1,4 @@
-//! A case: a command, and what comes in answer to it.
+//! A case: a command, and the bytes that arrive in answer to it.
 
 use anyhow::{Context, Result};
 use mc_codec::{NextReply, ReplyReader, write_atom};
@@ -9,7 +9,7 @@ use mc_route::{Outcome, join};
 use mc_text::Block;
 use std::alloc::Global;
 
-/// Plays a line, and appends what is printed for it.
+/// Plays a line, and appends its printed line.
 pub fn play_line(alloc: Global, line: &[u8], output: &mut Vec<u8>) -> Result<()> {
     let text = word_at(alloc, line, 0)?.context("no command")?;
     match Asked::of_text(alloc, text.as_slice(), output)? {
@@ -18,7 +18,7 @@ pub fn play_line(alloc: Global, line: &[u8], output: &mut Vec<u8>) -> Result<()>
     }
 }
 
-/// The bytes that a word of a line says, by its number, where the line has so many.
+/// The bytes of a line's word, by its number, if the line has that many.
 fn word_at(alloc: Global, line: &[u8], number: usize) -> Result<Option<Vec<u8>>> {
     match line.split(|b| *b == b' ').nth(number) {
         Some(digits) => Ok(Some(hex::decode(alloc, digits)?)),
@@ -32,17 +32,17 @@ fn push(bytes: &[u8], output: &mut Vec<u8>) -> Result<()> {
     Ok(())
 }
 
-/// A command that was sent, and the bytes that came.
+/// A command that was sent, and the bytes that arrived.
 #[derive(Drop)]
 struct Asked {
-    /// The request that its spelling is.
+    /// The request of its spelling.
     request: Request,
     head: Head,
     reader: ReplyReader,
 }
 
 impl Asked {
-    /// The first command of a text, where there is one. Its spelling is appended.
+    /// The first command of a text, if it has one. Its spelling is appended.
     fn of_text(alloc: Global, text: &[u8], output: &mut Vec<u8>) -> Result<Option<Asked>> {
         let Some(atom) = first_command(alloc, text)? else {
             return Ok(None);
@@ -58,7 +58,8 @@ impl Asked {
         }))
     }
 
-    /// Takes the pieces of a line, which are after its first word, until one is strange.
+    /// Takes the pieces of a line, which are after its first word, until one is a protocol
+    /// violation.
     fn hear_line(&mut self, alloc: Global, line: &[u8], output: &mut Vec<u8>) -> Result<()> {
         for number in 1..=line.len() {
             let Some(piece) = word_at(alloc, line, number)? else {
@@ -71,7 +72,7 @@ impl Asked {
         Ok(())
     }
 
-    /// Takes a piece, appends what it gives, and says whether more may come.
+    /// Takes a piece, appends its replies, and returns whether more may arrive.
     fn hear(&mut self, alloc: Global, piece: &[u8], output: &mut Vec<u8>) -> Result<bool> {
         self.reader.feed(piece)?;
         for _ in 0..=piece.len() {
@@ -99,7 +100,7 @@ impl Asked {
     }
 }
 
-/// The first request of a text, where there is one.
+/// The first request of a text, if it has one.
 fn first_request(alloc: Global, text: &[u8]) -> Result<Option<Request>> {
     let mut reader = Reader::new(alloc);
     reader.feed(text)?;
@@ -109,7 +110,7 @@ fn first_request(alloc: Global, text: &[u8]) -> Result<Option<Request>> {
     })
 }
 
-/// The first command of the first request of a text, where there is one.
+/// The first command of the first request of a text, if it has one.
 fn first_command(alloc: Global, text: &[u8]) -> Result<Option<Atom<Block>>> {
     let Some(request) = first_request(alloc, text)? else {
         return Ok(None);

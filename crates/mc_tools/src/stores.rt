@@ -1,4 +1,4 @@
-//! How fast a cache answers over each store, and a cache that only holds items.
+//! How fast a cache answers over each store, and a cache that only stores items.
 ghost use Rattle.std.specs.Prelude.{◌<◌, ◌^◌};
 
 use crate::figures::nanos;
@@ -12,14 +12,14 @@ use mc_text::Key;
 use std::alloc::Global;
 use std::time::Instant;
 
-/// The budget of each cache in bytes: none of them evicts by it.
+/// The budget of each cache in bytes: no cache evicts by it.
 const BUDGET: u64 = 1_099_511_627_776;
 
 /// A value of 100 bytes.
 const VALUE: [u8; 100] = [b'x'; 100];
 
-/// Prints how long gets, sets of held keys and sets of other keys take, each over as many items as the cache's limit: a
-/// list of 1,000, and each hashed store of 1,000 and of 1,000,000.
+/// Prints how long gets, sets of stored keys and sets of other keys take. Each is over as many items as the cache's limit:
+/// a list of 1,000, and each hashed store of 1,000 and of 1,000,000.
 pub fn measure(rt: &HostRuntime) -> anyhow::Result<()> {
     let alloc = rt.alloc();
     let counter = CasCounter::starting_at(0);
@@ -34,8 +34,8 @@ pub fn measure(rt: &HostRuntime) -> anyhow::Result<()> {
     Ok(())
 }
 
-/// Sets so many items of a key of 20 bytes and a value of 100 bytes, and prints what they cost. A tool that tells how much
-/// memory a process took tells by two such runs how much an item takes.
+/// Sets this number of items with a key of 20 bytes and a value of 100 bytes, and prints their cost. A tool that measures
+/// the memory of a process finds the memory of an item by two such runs.
 pub fn hold(rt: &HostRuntime, items: u64) -> anyhow::Result<()> {
     let mut cache = table(rt.alloc(), items.max(1) as usize)?;
     let mut stored = 0u64;
@@ -46,15 +46,15 @@ pub fn hold(rt: &HostRuntime, items: u64) -> anyhow::Result<()> {
     Ok(())
 }
 
-/// A cache of this limit over a table, which holds nothing.
+/// An empty cache of this limit over a table.
 fn table(alloc: Global, items: usize) -> anyhow::Result<Cache<TableStore<FixedHasher>>> {
     ensure!(is_within_bounds(BUDGET, items), "no limit of items");
     let store = TableStore::new(alloc, items)?;
     Ok(Cache::new(alloc, store, BUDGET, items, CasCounter::starting_at(0)))
 }
 
-/// Prints how long each command takes on a cache of this limit, which holds nothing. The counts are printed so that no
-/// command can be left out.
+/// Prints how long each command takes on an empty cache of this limit. The counts are printed so that the compiler can
+/// omit no command.
 fn measure_cache<S: Store + Drop>(
     rt: &HostRuntime,
     name: &str,
@@ -66,7 +66,7 @@ fn measure_cache<S: Store + Drop>(
     measure_commands(rt, name, &mut cache, &held, &others)
 }
 
-/// The same, where the first keys are to be held, and the others evict them.
+/// Prints these times, with the first keys stored, while the others evict them.
 fn measure_commands<S: Store + Drop>(
     rt: &HostRuntime,
     name: &str,
@@ -95,7 +95,7 @@ fn measure_commands<S: Store + Drop>(
     Ok(())
 }
 
-/// So many keys of 20 bytes, from this number on, in an order that jumps.
+/// This number of keys of 20 bytes, from this number on, in an order that jumps.
 fn keys(alloc: Global, from: u64, count: u64) -> anyhow::Result<Vec<Key>> {
     let mut keys = Vec::new(alloc);
     for number in 0..count {
@@ -111,7 +111,7 @@ pub fn key(alloc: Global, number: u64) -> anyhow::Result<Key> {
     Ok(Key::plain(alloc, text.as_bytes())?)
 }
 
-/// Gets all keys so often, and says how many were held.
+/// Gets all keys repeatedly, and returns how many gets hit.
 fn gets<S: Store + Drop>(cache: &mut Cache<S>, keys: &[Key], rounds: u64) -> u64 {
     let mut hits = 0u64;
     for _ in 0..rounds {
@@ -123,7 +123,7 @@ fn gets<S: Store + Drop>(cache: &mut Cache<S>, keys: &[Key], rounds: u64) -> u64
     hits
 }
 
-/// Sets all keys so often, and says how many were stored.
+/// Sets all keys repeatedly, and returns how many sets stored.
 fn sets<S: Store + Drop>(cache: &mut Cache<S>, keys: &[Key], rounds: u64) -> anyhow::Result<u64> {
     let mut stored = 0u64;
     for _ in 0..rounds {
@@ -134,7 +134,7 @@ fn sets<S: Store + Drop>(cache: &mut Cache<S>, keys: &[Key], rounds: u64) -> any
     Ok(stored)
 }
 
-/// Sets a key, and says whether it was stored.
+/// Sets a key, and returns whether it was stored.
 fn is_set<S: Store + Drop>(cache: &mut Cache<S>, key: &Key) -> anyhow::Result<bool> {
     let update = Update::Store {
         mode: StoreMode::Set,

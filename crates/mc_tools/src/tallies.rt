@@ -1,4 +1,4 @@
-//! What the clients were answered, counted.
+//! The answers to the clients, counted.
 
 /// The bytes of an answer to a set.
 const STORED: usize = 8;
@@ -17,7 +17,7 @@ pub struct Tally {
 }
 
 impl Tally {
-    /// The tally of what all clients were answered.
+    /// The tally of all answers to the clients.
     pub fn of(outputs: &[Vec<u8>]) -> Tally {
         let mut tally = Tally {
             answers: 0,
@@ -29,7 +29,7 @@ impl Tally {
         tally
     }
 
-    /// Counts what a client was answered. Each part of an answer is known by its first byte.
+    /// Counts the answers to a client. The first byte of each part of an answer shows which one it is.
     fn add(&mut self, output: &[u8]) {
         let mut rest = output;
         for _ in 0..output.len() {

@@ -1,4 +1,4 @@
-//! What the clients send, and to which pool.
+//! The load of a threaded run: the clients' texts, and their pool.
 
 use mc_ring::{Address, Ring};
 use std::alloc::{AllocError, Global};
@@ -19,7 +19,7 @@ const KEYS: u64 = 1_000;
 
 const VALUE: [u8; 100] = [b'x'; 100];
 
-/// A ring of so many servers.
+/// A ring of this number of servers.
 pub fn ring_of(alloc: Global, servers: u64) -> anyhow::Result<Ring> {
     let mut addresses = Vec::new(alloc);
     for number in 0..servers {
@@ -29,7 +29,7 @@ pub fn ring_of(alloc: Global, servers: u64) -> anyhow::Result<Ring> {
     Ok(Ring::new(alloc, &addresses)?)
 }
 
-/// The pieces of each client's text, one each. All clients together send so many requests, or up to seven fewer.
+/// The pieces of each client's text, one each. All clients together send this number of requests, or up to seven fewer.
 pub fn inputs(alloc: Global, requests: u64) -> Result<Vec<Vec<Vec<u8>>>, AllocError> {
     let mut all = Vec::new(alloc);
     for client in 0..CLIENTS {
@@ -40,7 +40,7 @@ pub fn inputs(alloc: Global, requests: u64) -> Result<Vec<Vec<Vec<u8>>>, AllocEr
     Ok(all)
 }
 
-/// The text of a client with so many requests: of each four the first is a set.
+/// The text of a client with this number of requests: the first of each four is a set.
 fn text(alloc: Global, client: u64, requests: u64) -> Result<Vec<u8>, AllocError> {
     let mut text = Vec::new(alloc);
     for number in 0..requests {
@@ -69,8 +69,8 @@ fn append_request(
     Ok(())
 }
 
-/// The number of the key of a request. After each set come a get of its key, a get of a key that was set before it, and a get of one
-/// that is not set in the first half of the keys' first round.
+/// The number of the key of a request. Three gets follow each set: of its key, of a key that was set before it, and of a key that is
+/// not set in the first half of the keys' first round.
 fn key_number(number: u64) -> u64 {
     let sets = number / 4;
     match number % 4 {

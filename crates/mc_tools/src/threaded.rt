@@ -9,7 +9,7 @@ use std::sync::Wait;
 use std::thread::Threads;
 use std::time::Clock;
 
-/// Answers what the clients send, by so many servers on threads of their own.
+/// Answers the requests of the clients, by this number of servers on threads of their own.
 pub fn play<R: Threads + Wait + Clock + Sync>(
     rt: &R,
     alloc: Global,
@@ -25,7 +25,7 @@ pub fn play<R: Threads + Wait + Clock + Sync>(
     Ok(Tally::of(ran.outputs.as_slice()))
 }
 
-/// So many clocks.
+/// This number of clocks.
 fn clocks(alloc: Global, count: u64) -> Result<Vec<Ticks>, AllocError> {
     let mut all = Vec::new(alloc);
     for _ in 0..count {

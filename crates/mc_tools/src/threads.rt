@@ -1,11 +1,11 @@
 //! Plays gets and sets of eight clients over a pool, on threads and on one thread.
 //!
-//! `threads SERVERS REQUESTS` plays so many requests by [`mc_threads::run_threads`], and `one SERVERS REQUESTS` the same by a proxy
-//! and servers on one thread. `load SERVERS REQUESTS` only makes what the clients send. A tool that tells the time of a process tells
-//! what a request costs: that of one of the first two, less that of the last.
+//! `threads SERVERS REQUESTS` plays this number of requests by [`mc_threads::run_threads`], and `one SERVERS REQUESTS` plays them by
+//! a proxy and servers on one thread. `load SERVERS REQUESTS` only makes the clients' texts. A tool that times a process measures the
+//! cost of a request: the time of one of the first two, less that of the last.
 //!
-//! With no argument more each of both plays [`FEW`] requests over 1, 2 and 4 servers. A line tells how many answers came and how
-//! many gets found their key: no client uses another's keys, so both are the same in any order of the threads.
+//! Without a further argument both play [`FEW`] requests over 1, 2 and 4 servers. A line has the number of answers and of gets that
+//! hit. No client uses another's keys, so both numbers are equal in any order of the threads.
 
 use crate::tallies::Tally;
 use crate::thread_loads::{CLIENTS, inputs};
@@ -19,7 +19,7 @@ use std::time::Clock;
 /// How many requests a run without arguments has.
 const FEW: u64 = 800;
 
-/// Plays what the arguments say.
+/// Plays the run that the arguments name.
 pub fn play_as_asked<R: Print + Threads + Wait + Clock + Sync + AllocGlobal>(
     rt: &R,
     arguments: &mut Args,
@@ -48,7 +48,7 @@ pub fn play_little<R: Print + Threads + Wait + Clock + Sync + AllocGlobal>(
     Ok(())
 }
 
-/// Plays so many requests over so many servers, and prints what came of it.
+/// Plays this number of requests over this number of servers, and prints the result.
 fn play<R: Print + Threads + Wait + Clock + Sync + AllocGlobal>(
     rt: &R,
     how: &str,

@@ -29,7 +29,7 @@ no_requests : requests_of [] ≡ []
 unfolding requests_of requests_within
 no_requests = refl
 
--- of nothing each part is legal
+-- each part of an empty list is legal
 none_in : (n m : ℕ) → ◌≡◌ {A = List Entry} (drop n (take m [])) []
 none_in zero zero = refl
 none_in zero (suc m) = refl
@@ -40,7 +40,7 @@ legal_none : (place life : ℕ) (order : Order) (opening : CacheState) (log : Lo
 legal_none place life order opening log =
     subst (λ (es : List Entry). IsLegal order place opening es) (sym (none_in (taken_before place life log) (taken_before place (suc life) log))) tt
 
--- what a server made of named commands is a legal history
+-- the history of named commands that a server made is legal
 pub legal_history : (place : ℕ) (order : Order) (s : CacheState) (made : List Made) → AreMade s made → Each (λ (m : Made). IsNamed place order m.command) made
     → IsLegal order place s (map entry_of made)
 legal_history place order s [] h named = tt

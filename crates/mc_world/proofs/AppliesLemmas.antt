@@ -1,4 +1,4 @@
--- When events apply to a pool, and what was done where they did.
+-- When events apply to a pool, and what was done if they did.
 use Rattle.std.proofs.Common.{◌≡◌, ◌≢◌, ◌∙◌, ℕ, zero, suc, ◌+◌, ◌-◌, ◌^◌, ◌<◌, ◌≤◌, ◌==◌, ◌&&◌, ◌⊎◌, inl, inr, Bool, true, false, not, min, List, [], ◌∷◌, ◌++◌, length, drop, take, Option, Some, None, Result, Ok, Err, slice_get, slice_set, refl, sym, ap, subst, arith}
 use Rattle.std.specs.Prelude.{IfErr, OnErr, IsErrOf, IsOkUnless, IsTrue, nat_lt, slice_index_or}
 use Rattle.std.specs.Result.{IsOk}
@@ -43,14 +43,14 @@ use Rattle.mc_world.specs.declared.errors.Step.TheVariants.{Done, Nothing}
 abbrev pub pool_of : ProxyState → List SiteState → PoolState
 pool_of proxy sites = record { proxy = proxy; sites = sites }
 
--- it was done, and applies; nothing was done, and it does not
+-- an event was done, and applies; nothing was done, and it does not
 pub it_applies : {P : Type 0} → P → (Done ≡ Done → P) × (P → Done ≡ Done)
 it_applies p = (λ _. p, λ _. refl)
 
 pub it_does_not : {P : Type 0} → (P → ⊥) → (Nothing ≡ Done → P) × (P → Nothing ≡ Done)
 it_does_not never = (λ is. absurd cc, λ p. absurd (never p))
 
--- what is so is so at an error
+-- what holds, holds at an error
 pub at_error : {T E : Type 0} (P : Type 0) (r : Result T E) → P → OnErr r P
 at_error P (Ok value) is = tt
 at_error P (Err e) is = is
@@ -94,7 +94,7 @@ not_ready number turns.Closing old new differ h session at ready =
     let none : [] ≡ ready.what ∷ ready.others = sym (ap (λ (s : SessionState). rest_of s.reader []) (sym same) ∙ nothing_closed h.before.reader h.step.0) ∙ ready.first in
     absurd cc
 
--- one that takes a request finds one
+-- a turn that takes a request finds one that is ready
 pub was_ready : (number : ℕ) (old new : ProxyState) (sites : List SiteState) → Steps number old new (IsTurn number turns.Took old.ring old.losses) → CanTakeRequest number (pool_of old sites)
 was_ready number old new sites h = (
   h.before,
@@ -122,7 +122,7 @@ reached_server place count proxy proxy' sites site now at up arrives is = record
   proxy = is ∙ ap (λ (bytes : List ℕ). record proxy { links = with_link place (record (link_at proxy.links place) { output = bytes }) proxy.links }) (drop_min count (link_at proxy.links place).output);
 }
 
--- and come back
+-- bytes arrive at the proxy
 sent_min : (number count : ℕ) (end : Option ConnectionState) (server : ServerState) → sent_by number (min count (length (output_of end))) end server ≡ sent_by number count end server
 sent_min number count None server = refl
 sent_min number count (Some end) server = ap (λ (bytes : List ℕ). sent_by number 0 (Some (record end { output = bytes })) server) (drop_min count end.output)
@@ -153,7 +153,7 @@ not_whole link tag reply after idle takes =
     begun_is_not_whole takes.head link.unread (idle_by takes.head tag after.waiting link.waiting link.unread takes.oldest idle)
     (record { reply = reply; can = takes.can; rest = after.unread; spelled = takes.spelled })
 
--- a turn of a link that takes nothing, where nothing strange is unread
+-- a turn of a link that takes nothing, if nothing unread is a protocol violation
 pub record RestsIdle (place : ℕ) (old new : ProxyState) : Type 0 where
   pub idle : IsIdle (link_at old.links place).waiting (link_at old.links place).unread
   pub same : new ≡ old
@@ -164,7 +164,7 @@ rests place replies.Took old new differ never h = absurd (differ refl)
 rests place replies.Idle old new differ never h = record { idle = h.0; same = h.1 }
 rests place replies.Strange old new differ never h = absurd (never h.0)
 
--- a link that is up cannot come back, nor one without a generation left
+-- a link that is up cannot come up again, nor one without a generation left
 pub up_stays : (link : LinkState) → link.up ≡ true → can_come_back link ≡ true → ⊥
 up_stays link up can =
     let clash : (not true && nat_lt link.generation (2 ^ 64 - 1)) ≡ true = subst (λ (v : Bool). (not v && nat_lt link.generation (2 ^ 64 - 1)) ≡ true) up can in
@@ -187,7 +187,7 @@ comes_back (Err e) links place inside can no_link state only = elim only [
   | inr is ↦ (let clash : true ≡ false = sym can ∙ state (ap (λ (x : ProxyError). Err x) is) in absurd cc)
 ]
 
--- a turn of a link that is up gives up only where a whole reply has come
+-- a turn of a link that is up fails only if a whole reply has arrived
 pub gives_up : {X : Type 0} (r : Result X ProxyError) (links : List LinkState) (place : ℕ) → (link_at links place).up ≡ true
     → (IsErrOf r causes.Memory → HasReply (link_at links place)) → (IsErrOf r causes.NoLink → length links ≤ place)
     → (IsErrOf r causes.LinkState → (link_at links place).up ≡ false)
@@ -233,7 +233,7 @@ history_nowhere [] place none = refl
 history_nowhere (s ∷ ss) zero none = absurd (none-some s (sym none))
 history_nowhere (s ∷ ss) (suc place) none = history_nowhere ss place none
 
--- a link came back
+-- a link came up again
 pub came_back : (place : ℕ) (proxy proxy' : ProxyState) (sites : List SiteState) (site now : SiteState) → slice_get sites place ≡ Some site → place < length proxy.links
     → site.generation ≡ (link_at proxy.links place).generation → can_come_back (link_at proxy.links place) ≡ true → ComesBack (site.generation + 1) site now
     → proxy' ≡ record proxy { links = with_link place (up_link ((link_at proxy.links place).generation + 1)) proxy.links }
@@ -249,13 +249,13 @@ came_back place proxy proxy' sites site now at inside generation can back is = r
   proxy = is;
 }
 
--- a server that can serve has a request that waits
+-- a server that can serve has a request of a pending command
 pub serves_if : (place : ℕ) (pool : PoolState) (site : SiteState) → slice_get pool.sites place ≡ Some site → CanServe place pool
     → 0 < length (waiting_of (connection_at site.server site.connection))
 serves_if place pool site at can =
     subst (λ (s : SiteState). 0 < length (waiting_of (connection_at s.server s.connection))) (same_Some can.site site (sym can.at ∙ at)) can.waits
 
--- the way at a place is one
+-- the way at an index is one
 pub same_way : (generation i : ℕ) (ways : List WayState) (found : FoundWay generation ways i) (way : WayState) → slice_get ways i ≡ Some way → way ≡ found.way
 same_way generation i ways found way at = same_Some way found.way (sym at ∙ found.at)
 

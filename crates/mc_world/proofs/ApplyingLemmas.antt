@@ -1,4 +1,4 @@
--- Whether events apply to a pool, by what is asked of it.
+-- Whether events apply to a pool, by what the calls look at.
 use Rattle.std.proofs.Common.{◌≡◌, ◌∙◌, ℕ, ◌<◌, ◌≤◌, ◌==◌, inl, inr, Bool, true, false, if◌then◌else◌, not, length, Option, Some, None, slice_get, refl, sym, ap, subst, arith}
 use Rattle.std.specs.Prelude.{◌↔◌, IsTrue}
 use Rattle.std.specs.Option.{is_some}
@@ -20,14 +20,14 @@ use Rattle.mc_world.proofs.AppliesLemmas.{found_way, late_serves_if, serves_if}
 pub lost_nowhere : (place generation : ℕ) (pool : PoolState) → slice_get pool.sites place ≡ None → HasLost place generation pool → ⊥
 lost_nowhere place generation pool none h = none-some h.site (sym none ∙ h.at)
 
--- nor one whose way is not found
+-- a server has not lost a generation whose way is not found
 pub lost_no_way : (place generation : ℕ) (pool : PoolState) (site : SiteState) → slice_get pool.sites place ≡ Some site → None ≡ way_of generation site.lost
     → HasLost place generation pool → ⊥
 lost_no_way place generation pool site at none h =
     let same : h.site ≡ site = same_Some h.site site (sym h.at ∙ at) in
     none-some h.i (none ∙ ap (λ (s : SiteState). way_of generation s.lost) (sym same) ∙ h.first)
 
--- one is there whose way is found
+-- a server has lost a generation whose way is found
 pub lost_here : (place generation i : ℕ) (pool : PoolState) (site : SiteState) → slice_get pool.sites place ≡ Some site → Some i ≡ way_of generation site.lost
     → HasLost place generation pool
 lost_here place generation i pool site at found =
@@ -39,7 +39,7 @@ pub lost_if : (place generation : ℕ) (pool : PoolState) (site : SiteState) →
 lost_if place generation pool site at (Some i) is = (λ _. lost_here place generation i pool site at is, λ _. refl)
 lost_if place generation pool site at None is = (λ never. absurd cc, λ h. absurd (lost_no_way place generation pool site at is h))
 
--- a living generation goes its living way, a lost one that of lost ones
+-- a living generation is in its case, a lost one in the other
 pub by_living : (place generation : ℕ) (pool : PoolState) (living late : Type 0) (b : Bool) → Lives place generation pool → IsTrue b ↔ living
     → IsTrue b ↔ ByWay place generation pool living late
 by_living place generation pool living late b lives told = (
@@ -54,7 +54,7 @@ by_late place generation pool living late b never told = (
   λ by. elim by [ inl one ↦ absurd (never one.0) | inr other ↦ told.1 other.1 ],
 )
 
--- where there is no server none applies
+-- at a place without a server neither applies
 pub by_nowhere : (place generation : ℕ) (pool : PoolState) (living late : Type 0) → slice_get pool.sites place ≡ None → (late → HasLost place generation pool)
     → ByWay place generation pool living late → ⊥
 by_nowhere place generation pool living late none there by = elim by [
@@ -73,7 +73,7 @@ serves_living place pool site at up b told = (
   λ can. told.1 (serves_if place pool site at can),
 )
 
--- and of a lost one
+-- a server takes a request of a lost generation
 pub serves_lost : (place generation i : ℕ) (pool : PoolState) (site : SiteState) (way : WayState) → slice_get pool.sites place ≡ Some site → Some i ≡ way_of generation site.lost
     → slice_get site.lost i ≡ Some way → (b : Bool) → IsTrue b ↔ (0 < length (waiting_of (connection_at site.server way.connection))) → IsTrue b ↔ CanServeLate place generation pool
 serves_lost place generation i pool site way at found way_at b told = (
@@ -96,7 +96,7 @@ reaches_lost place generation i count pool site way at found way_at some b told 
   λ can. told.1 (subst (λ (w : WayState). 0 < length w.going) (late_going place generation i pool site way at found way_at can.there) can.moves.1),
 )
 
--- bytes come back to the proxy
+-- bytes arrive at the proxy
 pub comes_if : (place count : ℕ) (pool : PoolState) (site : SiteState) → slice_get pool.sites place ≡ Some site → IsUp place pool → 0 < count → (b : Bool)
     → IsTrue b ↔ (0 < length (output_of (connection_at site.server site.connection))) → IsTrue b ↔ CanReachProxy place count pool
 comes_if place count pool site at up some b told = (
@@ -109,7 +109,7 @@ comes_if place count pool site at up some b told = (
 pub not_up : (place count : ℕ) (pool : PoolState) → (link_at pool.proxy.links place).up ≡ false → CanReachProxy place count pool → ⊥
 not_up place count pool down can = let clash : false ≡ true = sym down ∙ can.up in absurd cc
 
--- a link can come back where its server can admit a connection
+-- a link can come up if its server can admit a connection
 pub returns_if : (place : ℕ) (pool : PoolState) (site : SiteState) → slice_get pool.sites place ≡ Some site → can_come_back (link_at pool.proxy.links place) ≡ true → (b : Bool)
     → IsTrue b ↔ CanAdmit site.server → IsTrue b ↔ CanReturn place pool
 returns_if place pool site at can b told = (
@@ -119,15 +119,15 @@ returns_if place pool site at can b told = (
       told.1 (subst (λ (s : SiteState). CanAdmit s.server) same h.admits),
 )
 
--- bytes are not none where there is one
+-- bytes are not empty if their number is above 0
 pub some_if : (b : Bool) (n : ℕ) → b ≡ (n == 0) → IsTrue (not b) ↔ (0 < n)
 some_if b n is = (λ t. grind (arith, nat_tests, is, t), λ some. grind (arith, nat_tests, is, some))
 
--- what is told false is not so
+-- what implies a test that fails does not hold
 pub not_so : {P : Type 0} (b : Bool) → b ≡ false → (P → IsTrue b) → P → ⊥
 not_so b is told p = let clash : false ≡ true = sym is ∙ told p in absurd cc
 
--- why a server cannot restart, by whether it is there
+-- why a server cannot restart, by whether its place has one
 pub refused_past : (servers place : ℕ) → servers ≤ place → Some NoServer ≡ restart_refusal_of servers place
 refused_past servers place past = ap (λ (v : Bool). if v then None else Some NoServer) (sym (le-ltb place servers past))
 

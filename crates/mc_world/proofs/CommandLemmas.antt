@@ -1,4 +1,4 @@
--- What a pool gives account of, as far as its commands go.
+-- The account of a pool, for its commands.
 use Rattle.std.proofs.Common.{◌≡◌, ◌≢◌, ◌∙◌, ⊎_elim, ℕ, zero, suc, ◌+◌, ◌≤◌, true, false, if◌then◌else◌, List, [], ◌∷◌, ◌++◌, map, drop, Some, slice_get, refl, sym, ap, subst, arith}
 use Rattle.std.proofs.lemmas.Bool.Decides.{eqb_tells}
 use Rattle.std.proofs.lemmas.Option.{none-some, same_Some}
@@ -25,7 +25,7 @@ use Rattle.mc_world.proofs.AccountLemmas.{legal_site}
 use Rattle.mc_account.specs.Lookups.{command_at}
 use Rattle.mc_history.specs.Named.{IsNamed, is_tag, tags_made, tags_of, times}
 
--- the two counts are one
+-- the two counts are equal
 pub times_is_count : (tag : Tag) (cs : List Tagged) → times tag (tags_of cs) ≡ count tag cs
 times_is_count tag [] = refl
 times_is_count tag (c ∷ cs) =
@@ -60,7 +60,7 @@ times-two tag (t ∷ ts) (suc j) zero at also differ =
     rw own (omega (arith, after))
 times-two tag (t ∷ ts) (suc j) (suc k) at also differ = omega (arith, times-two tag ts j k at also (λ same. differ (ap suc same)))
 
--- what is after an entry of a history
+-- what follows from an entry of a history
 record Stems (made : List Made) (j : ℕ) (d : Entry) : Type 0 where
   pub m : Made
   pub is : d ≡ entry_of m
@@ -81,7 +81,7 @@ named_at place order (m ∷ ms) zero d h at = let same : entry_of m ≡ d = same
     (m.command.0, ap (λ (e : Entry). command_at order (tag_in e)) (sym same) ∙ h.0)
 named_at place order (m ∷ ms) (suc j) d h at = named_at place order ms j d h.1 at
 
--- in one history no command is twice
+-- no command is twice in one history
 pub site_once : (place : ℕ) (order : Order) (lane : Lane) (link : LinkState) (opening : CacheState) (site : SiteState) (j k : ℕ) (d e : Entry) → ((number : ℕ) → AreInOrder (entries_of number order))
     → SiteHolds place order lane link opening site → slice_get site.history j ≡ Some d → slice_get site.history k ≡ Some e → tag_in d ≡ tag_in e → j ≡ k
 site_once place order lane link opening site j k d e numbered h at also same =

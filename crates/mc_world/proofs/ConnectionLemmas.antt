@@ -1,4 +1,4 @@
--- A server whose link was never lost has one connection, after each event that is done and where a server joins.
+-- A server whose link was never lost has one connection, after each event that is done and after a server joins.
 use Rattle.std.proofs.Common.{◌≡◌, ◌∙◌, ⊎_elim, ℕ, ◌⊎◌, inl, inr, true, List, [], ◌∷◌, ◌++◌, length, Option, None, Some, slice_get, slice_set, refl, sym, ap, arith}
 use Rattle.mc_ring.specs.Rings.{RingState}
 use Rattle.mc_cache.specs.CacheState.{CacheState}
@@ -21,12 +21,12 @@ use Rattle.mc_world.proofs.LogEntryLemmas.{got_inside, got_pushed}
 use Rattle.mc_world.proofs.LogLemmas.{number-push, stays_up}
 use Rattle.mc_world.proofs.PoolLemmas.{set_site}
 
--- servers that have admitted as many connections as those that were at their places
+-- servers that have admitted as many connections as those before them at their places
 abbrev AdmitAs : PoolState → PoolState → Type 0
 AdmitAs old new =
     (place : ℕ) (site : SiteState) → slice_get new.sites place ≡ Some site → (was : SiteState) × (slice_get old.sites place ≡ Some was) × (site.server.admitted ≡ was.server.admitted)
 
--- where the sites are the same, and where the site of one place is another that has admitted as many
+-- the sites stay; and the site of one place is another that has admitted as many
 admit_same : (old new : PoolState) → new.sites ≡ old.sites → AdmitAs old new
 admit_same old new sites place site at = (site, ap (λ (ss : List SiteState). slice_get ss place) (sym sites) ∙ at, refl)
 
@@ -38,12 +38,12 @@ admit_one place site now old new at sites same other s at_s =
     (λ elsewhere. (s, elsewhere.1, refl))
     (set_site old.sites place now other s (ap (λ (ss : List SiteState). slice_get ss other) (sym sites) ∙ at_s))
 
--- what leaves a server admits nothing
+-- sending bytes of a server admits nothing
 admitted-sent : (number count : ℕ) (connection : Option ConnectionState) (server : ServerState) → (sent_by number count connection server).admitted ≡ server.admitted
 admitted-sent number count None server = refl
 admitted-sent number count (Some connection) server = refl
 
--- each event that happens but the return of a link
+-- each event that happens, except the return of a link
 admit_stays : (event : Event (List ℕ)) (old new : PoolState) → Happens event old new → (AdmitAs old new) ⊎ ((place : ℕ) × (event ≡ LinkBack place) × LinkReturns place old new)
 admit_stays (ClientBytes client bytes) old new e = inl (admit_same old new e.1.sites)
 admit_stays (ClientGone client) old new e = inl (admit_same old new e.1.sites)
@@ -67,11 +67,11 @@ admit_stays (LinkBack server) old new e = inr (server, refl, e)
 admit_stays (ServerSeesEnd server generation) old new e =
     inl (admit_one server e.1.there.site e.1.there.now old new e.1.there.at e.1.there.sites (ap (λ (s : ServerState). s.admitted) e.1.ends.closes))
 
--- a link that can come back is not up
+-- a link that can come up is not up
 down_now : (link : LinkState) → can_come_back link ≡ true → link.up ≡ true → ⊥
 down_now link can up = grind arith
 
--- a link that is back was lost
+-- a link that comes up again was lost
 back_first : (ring : RingState) (opening : CacheState) (old : CourseState) (new : PoolState) (place : ℕ) → CourseHolds ring opening old → LinkReturns place old.pool new
     → (other : ℕ) (site : SiteState) → slice_get new.sites other ≡ Some site → number_of (loses other) old.log ≡ 0 → site.server.admitted ≡ 1
 back_first ring opening old new place h e other site at never =

@@ -24,7 +24,7 @@ pub untaken-push : (tag : Tag) (ways : List WayState) (way : WayState) → untak
 untaken-push tag [] way = omega arith
 untaken-push tag (w ∷ ws) way = omega (arith, untaken-push tag ws way)
 
--- one way has another list
+-- one way is replaced
 pub untaken-set : (tag : Tag) (ways : List WayState) (i : ℕ) (way now : WayState) → slice_get ways i ≡ Some way
     → untaken_times tag (slice_set ways i now) + times tag way.untaken ≡ untaken_times tag ways + times tag now.untaken
 untaken-set tag [] zero way now at = absurd (none-some way at)

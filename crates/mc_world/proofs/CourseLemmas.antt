@@ -1,4 +1,4 @@
--- The clients of a world, where one of them has changed.
+-- The clients of a world after one of them has changed.
 use Rattle.std.proofs.Common.{◌≡◌, ◌≢◌, ◌∙◌, ⊎_elim, ℕ, zero, suc, ◌<◌, List, [], ◌∷◌, ◌++◌, length, refl, sym, ap, subst, arith}
 use Rattle.std.proofs.lemmas.Bool.Decides.{eqb_tells}
 use Rattle.mc_account.specs.Holds.{changed}
@@ -18,7 +18,7 @@ client_other zero (suc other) client (c ∷ cs) differ = refl
 client_other (suc number) zero client (c ∷ cs) differ = refl
 client_other (suc number) (suc other) client (c ∷ cs) differ = client_other number other client cs (λ same. differ (ap suc same))
 
--- what is read of each, where one has changed
+-- what is read of each client after one has changed
 pub read_changed : (read : ClientState → List ℕ) (number : ℕ) (client : ClientState) (clients : List ClientState) → number < length clients
     → (n : ℕ) → read (client_at (with_client number client clients) n) ≡ changed number (read client) (λ m. read (client_at clients m)) n
 read_changed read number client clients inside n =
@@ -28,7 +28,7 @@ read_changed read number client clients inside n =
     (λ e. ap read (client_other number n client clients e.1) ∙ sym (changed-other number n (read client) (λ k. read (client_at clients k)) e.1))
     (eqb_tells number n)
 
--- as many as there were
+-- their number stays
 pub with_client-length : (number : ℕ) (client : ClientState) (clients : List ClientState) → length (with_client number client clients) ≡ length clients
 with_client-length number client [] = refl
 with_client-length zero client (c ∷ cs) = refl

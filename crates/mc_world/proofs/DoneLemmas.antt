@@ -42,7 +42,7 @@ use Rattle.mc_world.proofs.LogTurnLemmas.{log_late_turn, log_puts, log_server_ta
 use Rattle.mc_world.proofs.OutputLemmas.{sent_admitted, unsent, unsent_gone, unsent_kept, unsent_lost, unsent_noted, unsent_other, unsent_own, unsent_sent, unsent_sent_other, without_updated}
 use Rattle.mc_world.proofs.PoolLemmas.{pool_client_goes, pool_client_takes, pool_end_seen, pool_hears, pool_late_bytes, pool_late_turn, pool_loses, pool_puts, pool_reaches_proxy, pool_reaches_server, pool_returns, pool_server_takes, pool_takes, pool_takes_reply}
 
--- a course holds by functions that are the same at each number
+-- a course holds by functions that are equal at each number
 pub stood_as : (ring : RingState) (opening : CacheState) (order : Order) (lanes : ℕ → Lane) (new : CourseState) (texts sent outs : ℕ → List ℕ)
     → ((n : ℕ) → texts n ≡ text_of new n) → ((n : ℕ) → sent n ≡ taken_by new n) → ((n : ℕ) → outs n ≡ put_out_of new n)
     → PoolHolds opening texts sent order lanes new.pool → LogHolds ring order outs new.log new.pool → new.pool.proxy.admitted ≡ length new.clients
@@ -52,7 +52,7 @@ stood_as ring opening order lanes new texts sent outs text_is sent_is out_is poo
     let sent_same : sent ≡ taken_by new = λ i n. sent_is n i in
     grind arith
 
--- where the clients are the same, and as much is put out to each and not taken
+-- the clients stay, and for each the same bytes are emitted and not taken
 pub same_clients : (ring : RingState) (opening : CacheState) (order : Order) (lanes : ℕ → Lane) (old new : CourseState)
     → new.clients ≡ old.clients → ((n : ℕ) → unsent new.pool.proxy.sessions n ≡ unsent old.pool.proxy.sessions n) → new.pool.proxy.admitted ≡ old.pool.proxy.admitted
     → old.pool.proxy.admitted ≡ length old.clients
@@ -66,12 +66,12 @@ same_clients ring opening order lanes old new same outputs admitted numbered poo
     ∙ ap (λ (bytes : List ℕ). taken_by new n ++ bytes) (sym (outputs n)))
     pool log (admitted ∙ numbered ∙ ap (λ (cs : List ClientState). length cs) (sym same)) generations connections lives
 
--- a client whose session is open is there
+-- a client with an open session exists
 pub is_there : (ring : RingState) (opening : CacheState) (c : CourseState) (client : ℕ) (session : SessionState) → CourseHolds ring opening c
     → session_at c.pool.proxy client ≡ Some session → client < length c.clients
 is_there ring opening c client session h at = grind (arith, cases_lt)
 
--- what stays where nothing is written
+-- a function that is changed to its own value stays
 changed-same : (f : ℕ → List ℕ) (k n : ℕ) → changed k (f k) f n ≡ f n
 changed-same f k n = grind (arith, eqb_tells, changed-other, changed-own)
 
@@ -96,7 +96,7 @@ heard ring opening order lanes old new client bytes inside is outputs admitted n
     pool log (admitted ∙ numbered ∙ sym (ap (λ (cs : List ClientState). length cs) is
     ∙ with_client-length client (record (client_at old.clients client) { text = (client_at old.clients client).text ++ bytes }) old.clients)) generations connections lives
 
--- a client has taken bytes: what was put out to it is the same
+-- a client has taken bytes: those that were emitted to it stay
 pub took : (ring : RingState) (opening : CacheState) (order : Order) (lanes : ℕ → Lane) (old new : CourseState) (client : ℕ) (bytes : List ℕ)
     → client < length old.clients
     → new.clients ≡ with_client client (record (client_at old.clients client) { taken = (client_at old.clients client).taken ++ bytes }) old.clients
@@ -129,7 +129,7 @@ took ring opening order lanes old new client bytes inside is own others admitted
 logged : (ring : RingState) (order : Order) (outs : ℕ → List ℕ) (pool : PoolState) (log log' : Log) → log' ≡ log → LogHolds ring order outs log pool → LogHolds ring order outs log' pool
 logged ring order outs pool log log' is h = subst (λ (l : Log). LogHolds ring order outs l pool) (sym is) h
 
--- a client that goes takes all that was put out first, and then goes
+-- a client that goes takes all that was emitted first, and then goes
 gone_as : (client : ℕ) (old new : PoolState) → (e : ClientGoes client old new)
     → ClientGoes client (record { proxy = sent_by client (length (output_of (session_at old.proxy client))) (session_at old.proxy client) old.proxy; sites = old.sites }) new
 gone_as client old new e = grind (arith, without_updated)

@@ -74,7 +74,7 @@ done_less ring opening (PutAnswer client) moment old new h applies done = put_ou
 done_less ring opening (TakeBytes client) moment old new h applies done =
     taken_less client (length (output_at (session_at old.pool.proxy client))) old.pool new.pool done.pool.0.0 done.pool.0.1 refl applies.0 done.pool.1
 
--- events after events
+-- events followed by events
 done_append : (es fs : List (Event (List ℕ))) (a b c : CourseState) → AreDone es a b → AreDone fs b c → AreDone (es ++ fs) a c
 done_append [] fs a b c first second = subst (λ (x : CourseState). AreDone fs x c) first second
 done_append (e ∷ es) fs a b c first second = (first.0, first.1, done_append es fs first.0 b c first.2 second)
@@ -85,7 +85,7 @@ all_append p (e ∷ es) fs first second =
     let parts = and_parts (p e) (list_all p es) first in
     and_from (p e) (list_all p (es ++ fs)) parts.0 (all_append p es fs parts.1 second)
 
--- no event, and a part after a part
+-- no event, and a part followed by a part
 pub drained_none : (moment : ℕ) (w : WorldState) → HasDrained moment w w
 drained_none moment w = record { drains = record { events = []; all = refl; done = refl }; losses = refl; opening = refl; budget = refl; items = refl }
 
@@ -112,7 +112,7 @@ pub drained : (moment : ℕ) (did : Bool) (a b : WorldState) → GoesOn moment d
 drained moment true a b goes = goes.0
 drained moment false a b goes = subst (λ (w : WorldState). HasDrained moment a w) (sym goes) (drained_none moment a)
 
--- one part of a drain after another, and one that tells less
+-- parts of a drain in sequence, and one that claims less
 pub over_then : (moment : ℕ) (One Two : CourseState → Type 0) (one two : Bool) (a b c : WorldState) → IsOver moment One one a b → IsOver moment Two two b c
     → IsOver moment (λ s. One s × Two s) (one || two) a c
 over_then moment One Two true two a b c first second = record { goes = goes_then moment true two a b c first.goes second.goes; idle = λ none. absurd cc }
@@ -160,7 +160,7 @@ act_done act moment old new h steps opened = record {
   idle = λ none. absurd cc;
 }
 
--- a loop whose parts did something goes on; one that rests is over
+-- a loop whose parts did something goes on; one whose parts did nothing is over
 pub goes_did : (moment : ℕ) (did : Bool) (a b c : WorldState) → GoesOn moment did a b → GoesOn moment true b c → GoesOn moment true a c
 goes_did moment true a b c first second = goes_then moment true true a b c first second
 goes_did moment false a b c first second = goes_then moment false true a b c first second
@@ -168,7 +168,7 @@ goes_did moment false a b c first second = goes_then moment false true a b c fir
 pub goes_both : (moment : ℕ) (one two : Bool) (a b c : WorldState) → (one || two) ≡ true → GoesOn moment one a b → GoesOn moment two b c → GoesOn moment true a c
 goes_both moment one two a b c some first second = subst (λ (v : Bool). GoesOn moment v a c) some (goes_then moment one two a b c first second)
 
--- what is so of the first numbers and of the next one
+-- what holds of the first numbers and of the next one
 below_more : (P : ℕ → Type 0) (n : ℕ) → ((k : ℕ) → k < n → P k) → P n → (k : ℕ) → k < n + 1 → P k
 below_more P n first next k inside =
     (elim (nat_lt k n) as (λ v. nat_lt k n ≡ v → P k) [

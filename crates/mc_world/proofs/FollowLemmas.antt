@@ -1,4 +1,4 @@
--- Where its link was never lost, a server took the first of the commands to it, in the order in which the proxy took the requests.
+-- If its link was never lost, a server took the first of the commands to it, in the order in which the proxy took the requests.
 use Rattle.std.proofs.Common.{◌≡◌, ◌∙◌, ⊎_elim, ℕ, zero, suc, ◌<◌, ◌≤◌, ◌==◌, inl, inr, true, false, if◌then◌else◌, List, [], ◌∷◌, ◌++◌, length, map, take, drop, Some, slice_get, refl, sym, ap, subst, arith}
 use Rattle.std.specs.List.{list_all}
 use Rattle.std.specs.Prelude.{All}
@@ -42,7 +42,7 @@ use Rattle.mc_world.proofs.LogEntryLemmas.{begun_at, got_map, got_some, got_ther
 use Rattle.mc_world.proofs.LogLemmas.{number-before, stays_up}
 use Rattle.mc_world.proofs.LogLivingLemmas.{commands_split, made_of_entry}
 
--- nothing was made on another connection than the first
+-- no command was made on another connection than the first
 abbrev IsFirstAlone : List Made → Type 0
 IsFirstAlone made = (number : ℕ) → 1 ≤ number → taken_of number (map taking_of made) ≡ []
 
@@ -68,12 +68,12 @@ all_on (m ∷ ms) h =
     let own : (m.connection == 0) ≡ true = rw first refl in
     ap (λ v. if v then m ∷ made_on 0 ms else made_on 0 ms) own ∙ ap (λ (xs : List Made). m ∷ xs) (all_on ms (later_alone m ms h))
 
--- the tags of a history are those of what was made
+-- the tags of a history are those of the commands that were made
 tags_made_of : (made : List Made) → map tag_in (map entry_of made) ≡ tags_of (map (λ (m : Made). m.command) made)
 tags_made_of [] = refl
 tags_made_of (m ∷ ms) = ap (λ (ts : List Tag). m.command.1 ∷ ts) (tags_made_of ms)
 
--- a command that was sent before a lane began, and what became of it
+-- a command that was sent before a lane began, and its outcome
 record WasTold (place : ℕ) (order : Order) (c : Tagged) : Type 0 where
   pub command : command_at order c.1 ≡ Some (to_place place c.0)
   pub outcome : Outcome
@@ -108,7 +108,7 @@ first_told place since order c cs numbered sized before is =
     let found = command_found place order numbered sized 0 c first.outcome command outcome in
     record { command = found.command; outcome = first.outcome; known = found.outcome; told = first.told }
 
--- what is known and is no loss is a reply
+-- a known outcome that is no loss is a reply
 pub reply_known : (outcome : Outcome) → is_told outcome ≡ true → (outcome ≡ Lost → ⊥) → (reply : AReply (List ℕ)) × (outcome ≡ Reply reply)
 reply_known Awaited told never = absurd (false≢true told)
 reply_known Lost told never = absurd (never refl)
@@ -131,7 +131,7 @@ all_parts : (place : ℕ) (order : Order) (lane : Lane) (link : LinkState) (open
 all_parts place order lane link opening site h =
     commands_split place order lane (commands_on site.connection h.holds.made) (h.holds.living h.up).others (h.holds.living h.up).commands
 
--- nothing was sent before: what was would be made, and so be twice among the commands
+-- nothing was sent before: a command that was would be made, and so be twice among the commands
 nothing_before : (place : ℕ) (order : Order) (lane : Lane) (link : LinkState) (opening : CacheState) (site : SiteState) (cs : List Tagged) → IsHeld place order lane link opening site
     → commands_to place (take lane.since order) ≡ cs → cs ≡ []
 nothing_before place order lane link opening site [] h is = refl
@@ -158,7 +158,7 @@ nothing_before place order lane link opening site (c ∷ cs) h is =
     let counted = times_is_count c.1 (commands_to place order) in
     absurd (omega (arith, parts, both, front, once, twice, few, one, counted))
 
--- so its history is of the first of the commands to it
+-- the history of a site is of the first of the commands to it
 held_follows : (place : ℕ) (order : Order) (lane : Lane) (link : LinkState) (opening : CacheState) (site : SiteState) → IsHeld place order lane link opening site
     → (untaken : List Tag) × (map tag_in site.history ++ untaken ≡ tags_of (commands_to place order))
 held_follows place order lane link opening site h =
@@ -193,12 +193,12 @@ no_past : (past : List Made) → length past ≡ 0 → past ≡ []
 no_past [] none = refl
 no_past (m ∷ ms) none = absurd (omega (arith, none))
 
--- where a link is never lost, no command to its server is told lost
+-- if a link is never lost, no command to its server is logged as lost
 pub nothing_lost : (place : ℕ) (tag : Tag) (history : List Entry) (log : Log) → number_of (loses place) log ≡ 0 → IsToldLost place tag history log → ⊥
 nothing_lost place tag history log none (inl down) = grind (arith, true≢false, number-before, stays_up)
 nothing_lost place tag history log none (inr lost) = grind arith
 
--- there is no history past the servers
+-- places past the servers have no history
 none_past : (sites : List SiteState) (place : ℕ) → length sites ≤ place → histories_of sites place ≡ []
 none_past [] place past = refl
 none_past (s ∷ ss) zero past = absurd (omega (arith, past))

@@ -28,11 +28,11 @@ use Rattle.mc_world.proofs.LossLemmas.{get_pushed}
 use Rattle.mc_world.proofs.PoolLemmas.{links_sent, set_site}
 use Rattle.mc_world.proofs.SiteLemmas.{get_none}
 
--- links that are up, and of the generations, as others are, by place
+-- links that are up, and of the same generations, as others are, by place
 abbrev SameGenerations : List LinkState → List LinkState → Type 0
 SameGenerations old new = (place : ℕ) → ((link_at new place).generation ≡ (link_at old place).generation) × ((link_at new place).up ≡ (link_at old place).up)
 
--- a link that is handed a command is up, and of the generation, as it was, and so is one that receives many
+-- a link that is handed a command, or many, stays up and of its generation
 handed_to_stays : (tag : Tag) (atom : Atom (List ℕ)) (link : LinkState)
     → ((handed_to tag atom link).generation ≡ link.generation) × ((handed_to tag atom link).up ≡ link.up)
 handed_to_stays tag atom link =
@@ -48,11 +48,11 @@ received_stays (c ∷ cs) link =
     let first = handed_to_stays c.1 c.0 link in
     (others.0 ∙ first.0, others.1 ∙ first.1)
 
--- where links are the same
+-- the links stay
 same_links : (old new : List LinkState) → new ≡ old → SameGenerations old new
 same_links old new is place = (ap (λ (ls : List LinkState). (link_at ls place).generation) is, ap (λ (ls : List LinkState). (link_at ls place).up) is)
 
--- where the link of one place is another, up and of the same generation
+-- the link of one place is another, up and of the same generation
 one_link : (place : ℕ) (link : LinkState) (old new : List LinkState) → (link_at old place).up ≡ true → link.generation ≡ (link_at old place).generation
     → link.up ≡ (link_at old place).up → new ≡ with_link place link old → SameGenerations old new
 one_link place link old new up same still is other =
@@ -70,7 +70,7 @@ one_link place link old new up same still is other =
     ))
     (eqb_tells place other)
 
--- a site is of another link that is as the one was
+-- a site is of another link with the state and the generation of its own
 moved : (old new : LinkState) (site : SiteState) → (new.generation ≡ old.generation) × (new.up ≡ old.up) → IsOfLink old site → IsOfLink new site
 moved old new site same h = record { same = h.same ∙ sym same.0; rising = h.rising; most = h.most; below = λ up. h.below (sym same.1 ∙ up) }
 
@@ -91,7 +91,7 @@ fewer link site now from rises was same h = record {
   below = λ up i w at. let old = was i w at in let less = h.below up (from i) old.0 old.1 in let is = old.2 in omega (arith, less, is, same);
 }
 
--- the same are lost; one of them is another of its generation; one of them has ended
+-- the lost generations stay; one of them is another of its generation; one of them has ended
 kept : (site now : SiteState) → now.generation ≡ site.generation → now.lost ≡ site.lost → (link : LinkState) → IsOfLink link site → IsOfLink link now
 kept site now same lost link h =
     fewer link site now (λ j. j) (λ j k below. below) (λ j w at. (w, ap (λ (ws : List WayState). slice_get ws j) (sym lost) ∙ at, refl)) same h
@@ -109,12 +109,12 @@ kept_removed : (site now : SiteState) (i : ℕ) → now.generation ≡ site.gene
 kept_removed site now i same lost link h =
     fewer link site now (shift i) (shift_rises i) (λ j w at. (w, sym (get_removed site.lost i j) ∙ ap (λ (ws : List WayState). slice_get ws j) (sym lost) ∙ at, refl)) same h
 
--- where the sites are the same
+-- the sites stay
 same_sites : (old new : PoolState) → new.sites ≡ old.sites → SameGenerations old.proxy.links new.proxy.links → HaveOneGeneration old → HaveOneGeneration new
 same_sites old new sites links h place site at =
     moved (link_at old.proxy.links place) (link_at new.proxy.links place) site (links place) (h place site (ap (λ (ss : List SiteState). slice_get ss place) (sym sites) ∙ at))
 
--- where the site of one place is another, of its link
+-- the site of one place is another, of its link
 other_site : (place : ℕ) (now : SiteState) (old new : PoolState) → new.sites ≡ slice_set old.sites place now → IsOfLink (link_at new.proxy.links place) now
     → ((other : ℕ) → place ≢ other → ((link_at new.proxy.links other).generation ≡ (link_at old.proxy.links other).generation) × ((link_at new.proxy.links other).up ≡ (link_at old.proxy.links other).up))
     → HaveOneGeneration old → HaveOneGeneration new
@@ -130,7 +130,7 @@ one_site place site now old new at keeps sites links h =
     other_site place now old new sites (moved (link_at old.proxy.links place) (link_at new.proxy.links place) now (links place) (keeps (link_at old.proxy.links place) (h place site at)))
     (λ other differ. links other) h
 
--- the same at a site whose link is up
+-- a site whose link is up stays of its generation
 there_stays : (place : ℕ) (old new : PoolState) → (there : AtSite place old new) → there.now.generation ≡ there.site.generation → there.now.lost ≡ there.site.lost
     → SameGenerations old.proxy.links new.proxy.links → HaveOneGeneration old → HaveOneGeneration new
 there_stays place old new there same lost links h = one_site place there.site there.now old new there.at (kept there.site there.now same lost) there.sites links h
@@ -144,7 +144,7 @@ first_of_link opening = record {
   below = λ up i w at. absurd (none-some w (sym (get_none i) ∙ at));
 }
 
--- a link that is lost was above those that were lost before
+-- the generation of a link that is lost was above those that were lost before
 cut_stays : (place : ℕ) (old new : PoolState) → LosesLink place old new → HaveOneGeneration old → HaveOneGeneration new
 cut_stays place old new e h =
     let link = link_at old.proxy.links place in
@@ -184,7 +184,7 @@ cut_stays place old new e h =
     let is = ap (λ (ls : List LinkState). link_at ls other) links_are ∙ link_other place other (down_link link.generation) old.proxy.links differ in
     (ap (λ (l : LinkState). l.generation) is, ap (λ (l : LinkState). l.up) is)) h
 
--- a link that is back is of the next generation, and so is its site
+-- a link that comes up is of the next generation, and so is its site
 back_stays : (place : ℕ) (old new : PoolState) → LinkReturns place old new → HaveOneGeneration old → HaveOneGeneration new
 back_stays place old new e h =
     let link = link_at old.proxy.links place in
@@ -259,7 +259,7 @@ generations_stay (ServerSeesEnd server generation) old new e h =
     one_site server e.1.there.site e.1.there.now old new e.1.there.at
     (kept_removed e.1.there.site e.1.there.now e.0 (ap (λ (s : SiteState). s.generation) e.1.ends.all_else) (ap (λ (s : SiteState). s.lost) e.1.ends.all_else)) e.1.there.sites (same_links old.proxy.links new.proxy.links (ap (λ (p : ProxyState). p.links) e.1.there.proxy)) h
 
--- a server restarts: its generation is the same, and none was lost
+-- a server restarts: its generation stays, and none was lost
 pub generations_restart : (place : ℕ) (opening : CacheState) (old new : PoolState) → ServerRestarts place opening old new → HaveOneGeneration old → HaveOneGeneration new
 generations_restart place opening old new e h =
     one_site place e.site (restarted opening e.site) old new e.at

@@ -1,4 +1,4 @@
--- Each server stays in its life, and its history goes on, after each event that happens.
+-- Each server stays in its life, and its history grows, after each event that happens.
 use Rattle.std.proofs.Common.{◌≡◌, ◌∙◌, ⊎_elim, ℕ, inl, inr, List, [], ◌++◌, Some, slice_get, slice_set, sym, ap, subst, append-nil}
 use Rattle.std.proofs.lemmas.Bool.Decides.{eqb_tells}
 use Rattle.mc_history.specs.declared.entries.Entry.{Entry}
@@ -8,12 +8,13 @@ use Rattle.mc_world.specs.Courses.{Happens}
 use Rattle.mc_world.specs.WorldState.{PoolState, SiteState, begun_of, histories_of}
 use Rattle.mc_world.proofs.LogEntryLemmas.{begun_at, begun_other, begun_own, history_at, history_other, history_own}
 
--- sites that go on from others: each is in the same life, and its history has the entries of that first
+-- sites that go on from others: each is in its life, and its history begins with the entries of the one
+-- before
 pub record GoOn (old new : List SiteState) : Type 0 where
   pub begun : (place : ℕ) → begun_of new place ≡ begun_of old place
   pub more : (place : ℕ) → (es : List Entry) × (histories_of new place ≡ histories_of old place ++ es)
 
--- where they are the same, and where the site of one place is another
+-- the sites stay; and the site of one place is another
 go_same : (old new : List SiteState) → new ≡ old → GoOn old new
 go_same old new same = record {
   begun = λ place. ap (λ (ss : List SiteState). begun_of ss place) same;
@@ -39,7 +40,7 @@ go_one : (place : ℕ) (site now : SiteState) (old new : List SiteState) → sli
     → now.begun ≡ site.begun → (es : List Entry) → now.history ≡ site.history ++ es → GoOn old new
 go_one place site now old new at sites begun es history = subst (λ (ss : List SiteState). GoOn old ss) (sym sites) (set_goes place site now old at begun es history)
 
--- where its history is the same
+-- the history of a site stays
 go_still : (place : ℕ) (site now : SiteState) (old new : List SiteState) → slice_get old place ≡ Some site → new ≡ slice_set old place now
     → now.begun ≡ site.begun → now.history ≡ site.history → GoOn old new
 go_still place site now old new at sites begun history = go_one place site now old new at sites begun [] (history ∙ sym (append-nil site.history))

@@ -49,7 +49,7 @@ use Rattle.mc_world.proofs.LogRequestLemmas.{answers_go, requests_go}
 use Rattle.mc_world.proofs.OutputLemmas.{unsent}
 use Rattle.mc_world.proofs.WorldOpeningLemmas.{first_site_holds}
 
--- of commands that go to the first servers none goes to a later one
+-- no command to one of the first servers goes to a later one
 none_from : (few place session request at : ℕ) (commands : List Routed) → few ≤ place → All (λ (routed : Routed). routed.server < few) commands
     → commands_from place session request at commands ≡ []
 none_from few place session request at [] le h = refl
@@ -71,11 +71,11 @@ none_to place (e ∷ es) h =
     (none_from (length e.ring.servers) place e.session e.request 0 (route_of_taken e.ring e.what) first.few (taken_inside e.ring e.what first.ring))
     ∙ none_to place es (All-tail (IsRoutedWithin place) e es h)
 
--- and no reply of a later one is known
+-- no reply of a later one is known
 none_replied : (place : ℕ) (order : Order) → All (IsRoutedWithin place) order → AreReplied place order []
 none_replied place order h tag atom reply is known = absurd (omega (arith, commands_within place order h tag (to_place place atom) is))
 
--- the links of the places that were there
+-- the links of the places that existed before
 link_there : (links : List LinkState) (link : LinkState) (other : ℕ) → other < length links → link_at (links ++ link ∷ []) other ≡ link_at links other
 link_there links link other inside = get_or_append_left links (link ∷ []) (down_link 0) other inside
 
@@ -122,7 +122,7 @@ none_at : (i : ℕ) → ◌≡◌ {A = Option WayState} (slice_get [] i) None
 none_at zero = refl
 none_at (suc i) = refl
 
--- the histories are the same, and nothing is untaken that was not
+-- the histories stay, and no more commands are untaken
 histories_joined : (opening : CacheState) (sites : List SiteState) (place : ℕ) → histories_of (sites ++ first_site opening ∷ []) place ≡ histories_of sites place
 histories_joined opening [] zero = refl
 histories_joined opening [] (suc place) = refl
@@ -185,7 +185,7 @@ log_joins ring order outs log address opening old new e h =
           (λ p tag has. untaken_joined opening old.sites p tag (subst (λ (ss : List SiteState). HasUntakenAt ss p tag) e.sites has)) h.commands;
     }
 
--- the link of the place that is new
+-- the link of the new place
 link_new : (links : List LinkState) (link : LinkState) → link_at (links ++ link ∷ []) (length links) ≡ link
 link_new [] link = refl
 link_new (l ∷ ls) link = link_new ls link
@@ -208,7 +208,7 @@ join_generations address opening old new e same h other site at =
           (subst (λ (s : SiteState). IsOfLink (up_link 1) s) (sym last.1) (first_of_link opening)))
     ]
 
--- what was taken in each life is the same
+-- the entries of each life stay
 begun_joined : (opening : CacheState) (sites : List SiteState) (place : ℕ) → begun_of (sites ++ first_site opening ∷ []) place ≡ begun_of sites place
 begun_joined opening [] zero = refl
 begun_joined opening [] (suc place) = refl

@@ -38,7 +38,7 @@ use Rattle.mc_history.proofs.MadeLemmas.{cache_of, made_push, replayed_made}
 use Rattle.mc_world.proofs.SiteLemmas.{appended, commands_push_other, commands_push_own, entry_by, get_none, is_made, lost_elsewhere, lost_untouched, made_of, next_is, one_more, other_is, same_end, still_good, taking_by}
 use Rattle.mc_history.specs.Named.{IsNamed, tags_made, times}
 
--- what is in a list in which one is another
+-- what is in a list after one element is replaced
 pub get_set : (ways : List WayState) (i : ℕ) (way : WayState) (j : ℕ) (w : WayState) → slice_get (slice_set ways i way) j ≡ Some w
     → ((j ≡ i) × (w ≡ way)) ⊎ ((j ≢ i) × (slice_get ways j ≡ Some w))
 get_set [] i way j w e = absurd (none-some w (sym (get_none j) ∙ e))
@@ -50,7 +50,7 @@ get_set (x ∷ xs) (suc i) way (suc j) w e = elim (get_set xs i way j w e) [
   | inr h ↦ inr (λ same. h.0 (omega (arith, same)), h.1)
 ]
 
--- ways with connections of their own, where one is changed but for its connection
+-- ways with connections of their own, after one is changed in something else
 abbrev AreApart : List WayState → Type 0
 AreApart ways = (i j : ℕ) (v w : WayState) → slice_get ways i ≡ Some v → slice_get ways j ≡ Some w → i ≢ j → v.connection ≢ w.connection
 
@@ -66,7 +66,7 @@ apart_set ways i way now same at apart j k v w at_v at_w differ = elim (get_set 
   ])
 ]
 
--- the living generation, where something happens on another connection
+-- the living generation, if something happens on another connection
 living_elsewhere : (place : ℕ) (order : Order) (lane : Lane) (all all' made made' : List Made) (texts texts' sent : ℕ → List ℕ) (site : SiteState) (server : ServerState) (history : List Entry) (lost : List WayState)
     → texts' site.connection ≡ texts site.connection → commands_on site.connection made' ≡ commands_on site.connection made → connection_at server site.connection ≡ connection_at site.server site.connection
     → ((t : Tag) → times t (tags_made all') + untaken_times t lost ≤ times t (tags_made all) + untaken_times t site.lost)
@@ -133,7 +133,7 @@ site_late_fed place order lane link opening site server i way piece rest at goin
       ];
     }
 
--- a server takes a request of a lost generation: whose it is was kept
+-- a server takes a request of a lost generation: its tag was kept
 pub site_late_turned : (place : ℕ) (order : Order) (lane : Lane) (link : LinkState) (opening : CacheState) (site : SiteState) (server : ServerState) (moment : ℕ) (i : ℕ) (way : WayState) (tag : Tag) (tags : List Tag) (reply : List ℕ)
     → slice_get site.lost i ≡ Some way → way.untaken ≡ tag ∷ tags → (steps : Steps way.connection site.server server (IsTurn way.connection moment Took))
     → steps.after.output ≡ steps.before.output ++ reply → moment < 2 ^ 63 → SiteHolds place order lane link opening site
@@ -219,7 +219,7 @@ site_late_turned place order lane link opening site server moment i way tag tags
       ];
     }
 
--- what is in a list of which one is taken out
+-- what is in a list after one element is removed
 pub shift : ℕ → ℕ → ℕ
 shift zero j = suc j
 shift (suc i) zero = zero

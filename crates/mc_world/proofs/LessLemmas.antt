@@ -41,7 +41,7 @@ took_less client old new h =
     let output : moves_of after.output ≡ moves_of before.output = ap moves_of takes.output in
     omega (arith, now, first, longer, output, sessions_updated ring client before after old.proxy.sessions h.steps.was, sites_handed client before.taken 0 commands old.proxy.links old.sites)
 
--- an answer was put out
+-- an answer was emitted
 pub put_out_less : (client : ℕ) (old new : PoolState) → PutsAnswer client old new → work_left new < work_left old
 put_out_less client old new h =
     let ring = old.proxy.ring in
@@ -49,7 +49,7 @@ put_out_less client old new h =
     left_as new ring (updated client h.steps.after old.proxy.sessions) old.proxy.links old.sites h.steps.ring h.steps.is h.steps.step.0 h.sites in
     omega (arith, now, sessions_updated ring client h.steps.before h.steps.after old.proxy.sessions h.steps.was, put_less ring h.steps.before h.steps.after h.steps.step.1)
 
--- all that was put out was taken
+-- all that was emitted was taken
 pub taken_less : (client count : ℕ) (old new : PoolState) (session : SessionState) → session_at old.proxy client ≡ Some session → count ≡ length (output_at (session_at old.proxy client))
     → 0 < count → TakesBytes client count old new → work_left new < work_left old
 taken_less client count old new session at all some h =
@@ -70,7 +70,7 @@ stepped_own : (number : ℕ) (old new : ServerState) (Step : CacheState → Cach
 stepped_own number old new Step steps =
     ap (λ (cs : Connections). connection_in cs number) steps.is ∙ updated_own number steps.before steps.after old.connections steps.was
 
--- all that a link had for its server has arrived
+-- all bytes of a link for its server have arrived
 pub reached_less : (place count : ℕ) (old new : PoolState) → place < length old.proxy.links → count ≡ length (link_at old.proxy.links place).output → 0 < count
     → ReachesServer place count old new → work_left new < work_left old
 reached_less place count old new inside all some h =
@@ -122,7 +122,7 @@ served_less place moment old new inside h =
       site_changed old.proxy.links old.sites place site there h.there.at inside,
     )
 
--- bytes that left a server
+-- bytes were sent from a server
 nothing_dropped : (n : ℕ) → ◌≡◌ {A = List ℕ} [] (drop n [])
 nothing_dropped zero = refl
 nothing_dropped (suc n) = refl
@@ -134,7 +134,7 @@ sent_output number count server =
       | Some end ↦ λ e. ap output_of (updated_own number end (record end { output = drop count end.output }) server.connections e)
     ]) refl
 
--- all of them have come back
+-- all of them have arrived at the proxy
 pub returned_less : (place count : ℕ) (old new : PoolState) → place < length old.proxy.links
     → ((site : SiteState) → slice_get old.sites place ≡ Some site → count ≡ length (output_of (connection_at site.server site.connection))) → 0 < count
     → ReachesProxy place count old new → work_left new < work_left old
@@ -224,7 +224,7 @@ ended_less place i old new inside h =
     ]) refl in
     omega (arith, now, less, ways_removed site.lost i h.ends.way h.ends.way_at, site_changed old.proxy.links old.sites place site there h.there.at inside)
 
--- a server took a request of a lost generation, where its link is down
+-- a server took a request of a lost generation, while its link is down
 pub late_less : (place i moment : ℕ) (old new : PoolState) → place < length old.proxy.links → (link_at old.proxy.links place).up ≡ false
     → LateTurn place i moment old new → work_left new < work_left old
 late_less place i moment old new inside down h =

@@ -1,4 +1,5 @@
--- What each server took in each of its lives is legal, after each event that is done; so the account has it.
+-- The entries of each server in each of its lives are legal, after each event that is done; so the account
+-- has it.
 use Rattle.std.proofs.Common.{◌≡◌, ◌∙◌, ⊎_elim, ℕ, zero, suc, ◌+◌, ◌-◌, ◌<◌, ◌≤◌, false, List, [], ◌∷◌, ◌++◌, length, take, drop, slice_get, refl, sym, ap, ap₂, subst, arith}
 use Rattle.std.proofs.lemmas.Bool.{cases_lt}
 use Rattle.std.proofs.lemmas.List.{drop_all, take-append-le, take_all}
@@ -25,7 +26,7 @@ use Rattle.mc_world.proofs.LogHistoryLemmas.{as_many}
 use Rattle.mc_world.proofs.SiteLemmas.{get_past}
 use Rattle.mc_world.proofs.LogLemmas.{before-past, before-stays, number-before, number-none, number-push}
 
--- what is legal by an order is so by one that goes on
+-- entries that are legal by an order are legal by one that goes on from it
 pub legal_kept : (order longer : Order) (place : ℕ) (s : CacheState) (es : List Entry) → Keeps order longer → IsLegal order place s es → IsLegal longer place s es
 legal_kept order longer place s [] keeps h = tt
 legal_kept order longer place s (e ∷ es) keeps h = (
@@ -35,12 +36,12 @@ legal_kept order longer place s (e ∷ es) keeps h = (
   legal_kept order longer place (step_of s h.0 e.moment e.refused).0 es keeps h.3,
 )
 
--- how many requests were taken before a life that was there, after something more is logged
+-- how many requests were taken before a life that existed, after something more is logged
 pub taken_stays : (place life : ℕ) (log : Log) (x : Logged) → life ≤ number_of (restarts place) log → taken_before place life (log ++ x ∷ []) ≡ taken_before place life log
 taken_stays place zero log x early = refl
 taken_stays place (suc life) log x early = ap (λ (l : Log). number_of (serves place) l) (before-stays (restarts place) life log x (omega (arith, early)))
 
--- no more than in all; and all, before a life that is past the last
+-- no more requests were taken before a life than in all; and before a life past the last, all
 pub taken_most : (place life : ℕ) (log : Log) → taken_before place life log ≤ number_of (serves place) log
 taken_most place zero log = omega arith
 taken_most place (suc life) log = number-before (serves place) (restarts place) life log
@@ -48,7 +49,7 @@ taken_most place (suc life) log = number-before (serves place) (restarts place) 
 pub taken_past : (place life : ℕ) (log : Log) → number_of (restarts place) log ≤ life → taken_before place (suc life) log ≡ number_of (serves place) log
 taken_past place life log past = ap (λ (l : Log). number_of (serves place) l) (before-past (restarts place) life log past)
 
--- what was taken in a life that has ended is the same, where the history goes on
+-- the entries of a life that has ended stay when the history grows
 pub life_stays : (place life : ℕ) (log : Log) (x : Logged) (es more : List Entry) → life < number_of (restarts place) log → length es ≡ number_of (serves place) log
     → in_life place life (log ++ x ∷ []) (es ++ more) ≡ in_life place life log es
 life_stays place life log x es more early size =
@@ -61,7 +62,7 @@ pub sizes_of : (ring : RingState) (order : Order) (outs : ℕ → List ℕ) (log
     → (place : ℕ) → length (histories_of pool.sites place) ≡ number_of (serves place) log
 sizes_of ring order outs log pool h place = as_many order log (histories_of pool.sites) place h.histories
 
--- where something is logged that is no restart, and each server goes on
+-- something is logged that is no restart, and each server goes on
 pub lives_on : (opening : CacheState) (order longer : Order) (log : Log) (x : Logged) (old new : List SiteState) → Keeps order longer → GoOn old new
     → ((place : ℕ) → restarts place x ≡ false) → ((place : ℕ) → length (histories_of old place) ≡ number_of (serves place) log)
     → LivesHold opening order log old → LivesHold opening longer (log ++ x ∷ []) new
@@ -103,7 +104,7 @@ no_life place (suc life) log es size past =
     ∙ ap (λ (fs : List Entry). drop (length es) fs) (take_all (length es) es (omega arith))
     ∙ drop_all (length es) es (omega arith)
 
--- what a server took in each of its lives is legal, where what it took in the present one is
+-- the entries of a server in each of its lives are legal, if those in the present one are
 pub lives_legal : (ring : RingState) (opening : CacheState) (order : Order) (outs : ℕ → List ℕ) (log : Log) (pool : PoolState) → LogHolds ring order outs log pool
     → ((place : ℕ) → IsLegal order place opening (drop (begun_of pool.sites place) (histories_of pool.sites place))) → LivesHold opening order log pool.sites
     → (place life : ℕ) → IsLegal order place opening (in_life place life log (histories_of pool.sites place))
@@ -119,12 +120,12 @@ lives_legal ring opening order outs log pool logs present h place life =
     (cases_lt (number_of (restarts place) log) life))
     (cases_lt life (number_of (restarts place) log))
 
--- where a server never restarted, its first life is its whole history
+-- if a server never restarted, its first life is its whole history
 pub whole_life : (place : ℕ) (log : Log) (es : List Entry) → number_of (restarts place) log ≡ 0 → length es ≡ number_of (serves place) log → in_life place 0 log es ≡ es
 whole_life place log es none size =
     ap (λ (n : ℕ). take n es) (taken_past place 0 log (omega (arith, none)) ∙ sym size) ∙ take_all (length es) es (omega arith)
 
--- and what it took in each life is legal where its history is
+-- the entries in each life are legal if the history is
 legal_take : (order : Order) (place n : ℕ) (s : CacheState) (es : List Entry) → IsLegal order place s es → IsLegal order place s (take n es)
 legal_take order place zero s [] h = tt
 legal_take order place zero s (e ∷ es) h = tt
@@ -148,7 +149,7 @@ legal_unrestarted order place s log es none h (suc life) =
     ∙ drop_taken (taken_before place (suc life) log) es in
     subst (λ (fs : List Entry). IsLegal order place s fs) (sym nothing) tt
 
--- in which life a request was taken
+-- the life in which a request was taken
 pub record IsOfLife (place k : ℕ) (log : Log) : Type 0 where
   pub life : ℕ
   pub from : taken_before place life log ≤ k

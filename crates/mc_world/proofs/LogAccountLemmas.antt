@@ -1,4 +1,4 @@
--- Where nothing was done a log leaves a pool so; and where it leaves a pool so, the account is given.
+-- An empty log leaves a pool so; and if a log leaves a pool so, the account is given.
 use Rattle.std.proofs.Common.{◌≡◌, ◌∙◌, ℕ, zero, suc, ◌<◌, inl, inr, List, [], length, map, Option, None, Some, slice_get, refl, sym, ap, subst, append-nil, arith}
 use Rattle.std.proofs.lemmas.List.Elements.{All-nil}
 use Rattle.std.proofs.lemmas.Option.{none-some, same_Some}
@@ -34,7 +34,7 @@ none_at : {X : Type 0} (k : ℕ) → ◌≡◌ {A = Option X} (slice_get [] k) N
 none_at zero = refl
 none_at (suc k) = refl
 
--- of no request there is a command
+-- no request has no command
 no_command : (tag : Tag) → ◌≡◌ {A = Option Routed} (command_at [] tag) None
 no_command tag = ap (λ (o : Option Asked). command_in o tag.atom) (none_at tag.request)
 

@@ -1,4 +1,4 @@
--- What became of commands, as a log tells it after an event more.
+-- Outcomes of commands, as a log shows them after one more event.
 use Rattle.std.proofs.Common.{◌≡◌, ◌≢◌, ◌∙◌, ⊎_elim, ℕ, ◌⊎◌, inl, inr, true, false, List, [], ◌∷◌, ◌++◌, Option, None, Some, refl, sym, ap, subst, arith}
 use Rattle.std.proofs.lemmas.Bool.Decides.{eqb_tells}
 use Rattle.std.proofs.lemmas.Option.{none-some}
@@ -25,7 +25,7 @@ use Rattle.mc_world.proofs.LogHistoryLemmas.{KeepsLost}
 use Rattle.mc_world.proofs.LogLemmas.{before-stays, number-push}
 use Rattle.mc_world.proofs.LogOrderLemmas.{turns-taken}
 
--- a command that is there, and one of which something is known, are of a request that was taken
+-- a command that exists, and one with an outcome, are of a request that was taken
 pub request_of : (o : Option Asked) (atom : ℕ) (routed : Routed) → command_in o atom ≡ Some routed → (e : Asked) × (o ≡ Some e)
 request_of None atom routed at = absurd (none-some routed at)
 request_of (Some e) atom routed at = (e, refl)
@@ -46,7 +46,7 @@ outcome_taken opening places order log tag outcome h at =
     let e = request_known (asked_at order tag.session tag.request) tag.atom outcome at in
     omega (arith, got_inside (entries_of tag.session order) tag.request e.0 e.1, turns-taken order log h.turns tag.session)
 
--- what a log tells of a command, after an event more
+-- what a log shows of a command, after one more event
 pub up_stays : (place : ℕ) (tag : Tag) (log : Log) (x : Logged) → WasTaken tag log → up_when_taken place tag log → up_when_taken place tag (log ++ x ∷ [])
 up_stays place tag log x taken up = ap (λ (l : Log). is_up place l) (before-stays (takes tag.session) tag.request log x taken) ∙ up
 
@@ -68,13 +68,13 @@ told_stays place tag history now log x Lost taken none h = elim h [
   | inr k ↦ inr (up_stays place tag log x taken k.0, was_lost_stays place tag log x k.1)
 ]
 
--- of each command what is known of it was, or the log tells it now
+-- each command's outcome was known, or the log shows it now
 abbrev pub News : Order → Order → (ℕ → List Entry) → Log → Type 0
 News order order' histories log =
     (tag : Tag) (place : ℕ) (atom : Atom (List ℕ)) (outcome : Outcome) → command_at order' tag ≡ Some (to_place place atom) → outcome_at order' tag ≡ Some outcome
     → ((command_at order tag ≡ Some (to_place place atom)) × (outcome_at order tag ≡ Some outcome)) ⊎ IsTold place tag (histories place) log outcome
 
--- commands that were never sent have no entry still
+-- commands that were never sent still have no entry
 abbrev pub KeepsNone : Log → (ℕ → List Entry) → (ℕ → List Entry) → Type 0
 KeepsNone log old new = (tag : Tag) (place : ℕ) → down_when_taken place tag log → HasNone (old place) tag → HasNone (new place) tag
 
@@ -97,11 +97,11 @@ commands_go opening places order order' log x sites now requests lost news none 
       ];
 }
 
--- histories that are the same
+-- the histories stay
 pub none_still : (log : Log) (old new : ℕ → List Entry) → ((place : ℕ) → new place ≡ old place) → KeepsNone log old new
 none_still log old new same tag place down none = subst (λ (es : List Entry). HasNone es tag) (sym (same place)) none
 
--- where nothing becomes of any command
+-- no command gets an outcome
 pub commands_still : (opening : RingState) (places : ℕ) (order : Order) (log : Log) (x : Logged) (sites now : List SiteState) → RequestsHold opening places order log
     → ((place : ℕ) → histories_of now place ≡ histories_of sites place) → ((place : ℕ) (tag : Tag) → HasUntakenAt now place tag → HasUntakenAt sites place tag)
     → CommandsHold order log sites → CommandsHold order (log ++ x ∷ []) now
@@ -109,7 +109,7 @@ commands_still opening places order log x sites now requests same untaken h =
     commands_go opening places order order log x sites now requests (λ tag lost. lost) (λ tag place atom outcome command known. inl (command, known))
     (none_still log (histories_of sites) (histories_of now) same) (λ place tag has. inl (untaken place tag has)) h
 
--- where the server of a place takes one that was sent
+-- the server of a place takes a command that was sent
 up_not_down : (place : ℕ) (tag : Tag) (log : Log) → up_when_taken place tag log → down_when_taken place tag log → ⊥
 up_not_down place tag log up down = let clash : true ≡ false = sym up ∙ down in absurd cc
 
@@ -134,7 +134,7 @@ commands_serve opening places order log x place e sites now requests is others u
     (eqb_tells place p))
     (λ p tag has. inl (untaken p tag has)) h
 
--- where a command gets its reply
+-- a command gets its reply
 pub commands_reply : (opening : RingState) (places : ℕ) (order : Order) (log : Log) (x : Logged) (t : Tag) (reply : AReply (List ℕ)) (sites now : List SiteState) → RequestsHold opening places order log
     → ((number : ℕ) → AreInOrder (entries_of number order)) → KeepsLost order (note t (Reply reply) order) → ((place : ℕ) → histories_of now place ≡ histories_of sites place)
     → ((place : ℕ) (tag : Tag) → HasUntakenAt now place tag → HasUntakenAt sites place tag) → CommandsHold order log sites → CommandsHold (note t (Reply reply) order) (log ++ x ∷ []) now

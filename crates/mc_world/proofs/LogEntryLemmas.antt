@@ -1,4 +1,4 @@
--- What is in lists that grow, and in the sites of a pool where the one of a place is another.
+-- Elements of lists that grow, and of the sites of a pool after the one of a place is replaced.
 use Rattle.std.proofs.Common.{◌≡◌, ◌≢◌, ◌∙◌, ⊎_elim, ℕ, zero, suc, ◌<◌, ◌⊎◌, inl, inr, List, [], ◌∷◌, ◌++◌, length, map, Some, slice_get, slice_set, refl, sym, ap, subst, arith}
 use Rattle.std.specs.Prelude.{remove}
 use Rattle.std.proofs.lemmas.Bool.Decides.{eqb_tells}
@@ -9,14 +9,14 @@ use Rattle.mc_account.specs.Orders.{Entry as Asked, Order, entries_of}
 use Rattle.mc_account.proofs.OrderLemmas.{entries_push_other, entries_push_own}
 use Rattle.mc_world.specs.WorldState.{SiteState, WayState, begun_of, histories_of}
 
--- what is in a list is inside it
+-- an element of a list is inside it
 pub got_inside : {X : Type 0} (xs : List X) (k : ℕ) (x : X) → slice_get xs k ≡ Some x → k < length xs
 got_inside [] zero x at = absurd (none-some x at)
 got_inside [] (suc k) x at = absurd (none-some x at)
 got_inside (y ∷ ys) zero x at = omega arith
 got_inside (y ∷ ys) (suc k) x at = omega (arith, got_inside ys k x at)
 
--- what is in a list with one more at its end
+-- an element of a list with one more at its end
 pub got_pushed : {X : Type 0} (xs : List X) (x : X) (k : ℕ) (y : X) → slice_get (xs ++ x ∷ []) k ≡ Some y → (slice_get xs k ≡ Some y) ⊎ ((k ≡ length xs) × (y ≡ x))
 got_pushed [] x zero y at = inr (refl, sym (same_Some x y at))
 got_pushed [] x (suc zero) y at = absurd (none-some y at)
@@ -27,7 +27,7 @@ got_pushed (z ∷ zs) x (suc k) y at = elim (got_pushed zs x k y at) [
   | inr h ↦ inr (ap suc h.0, h.1)
 ]
 
--- what is in a list where the one of a place is another
+-- an element of a list after the one of an index is replaced
 pub got_set : {X : Type 0} (xs : List X) (i : ℕ) (x : X) (j : ℕ) (y : X) → slice_get (slice_set xs i x) j ≡ Some y → ((i ≡ j) × (y ≡ x)) ⊎ ((i ≢ j) × (slice_get xs j ≡ Some y))
 got_set [] i x zero y at = absurd (none-some y at)
 got_set [] i x (suc j) y at = absurd (none-some y at)
@@ -39,20 +39,20 @@ got_set (z ∷ zs) (suc i) x (suc j) y at = elim (got_set zs i x j y at) [
   | inr h ↦ inr (λ same. h.0 (omega (arith, same)), h.1)
 ]
 
--- what is in a list is there where more is after
+-- an element of a list stays when more are appended
 pub got_there : {X : Type 0} (xs ys : List X) (k : ℕ) (x : X) → slice_get xs k ≡ Some x → slice_get (xs ++ ys) k ≡ Some x
 got_there [] ys zero x at = absurd (none-some x at)
 got_there [] ys (suc k) x at = absurd (none-some x at)
 got_there (y ∷ ys) zs zero x at = at
 got_there (y ∷ ys) zs (suc k) x at = got_there ys zs k x at
 
--- something is at each place of a list
+-- a list has an element at each index
 pub got_some : {X : Type 0} (xs : List X) (k : ℕ) → k < length xs → (x : X) × (slice_get xs k ≡ Some x)
 got_some [] k h = absurd (omega (arith, h))
 got_some (x ∷ xs) zero h = (x, refl)
 got_some (x ∷ xs) (suc k) h = got_some xs k (omega (arith, h))
 
--- what is in a list of what is said of each
+-- an element of a mapped list
 pub got_map : {X Y : Type 0} (f : X → Y) (xs : List X) (k : ℕ) (x : X) → slice_get xs k ≡ Some x → slice_get (map f xs) k ≡ Some (f x)
 got_map f [] zero x at = absurd (none-some x at)
 got_map f [] (suc k) x at = absurd (none-some x at)
@@ -65,7 +65,7 @@ got_mapped f [] (suc k) y at = absurd (none-some y at)
 got_mapped f (x ∷ xs) zero y at = (x, refl, same_Some (f x) y at)
 got_mapped f (x ∷ xs) (suc k) y at = got_mapped f xs k y at
 
--- a request of a client after one more was taken: it was there, or is that one
+-- a request of a client after one more was taken: it was taken before, or is that one
 pub asked_pushed : (order : Order) (e : Asked) (client request : ℕ) (d : Asked) → asked_at (order ++ e ∷ []) client request ≡ Some d
     → (asked_at order client request ≡ Some d) ⊎ ((e.session ≡ client) × (request ≡ length (entries_of client order)) × (d ≡ e))
 asked_pushed order e client request d at =
@@ -84,14 +84,14 @@ history_at [] (suc place) site at = absurd (none-some site at)
 history_at (s ∷ ss) zero site at = ap (λ (x : SiteState). x.history) (same_Some s site at)
 history_at (s ∷ ss) (suc place) site at = history_at ss place site at
 
--- and where its life began
+-- the beginning of its life is that of its site
 pub begun_at : (sites : List SiteState) (place : ℕ) (site : SiteState) → slice_get sites place ≡ Some site → begun_of sites place ≡ site.begun
 begun_at [] zero site at = absurd (none-some site at)
 begun_at [] (suc place) site at = absurd (none-some site at)
 begun_at (s ∷ ss) zero site at = ap (λ (x : SiteState). x.begun) (same_Some s site at)
 begun_at (s ∷ ss) (suc place) site at = begun_at ss place site at
 
--- where one site is another
+-- one site is replaced
 pub history_own : (sites : List SiteState) (place : ℕ) (site now : SiteState) → slice_get sites place ≡ Some site → histories_of (slice_set sites place now) place ≡ now.history
 history_own [] zero site now at = absurd (none-some site at)
 history_own [] (suc place) site now at = absurd (none-some site at)
@@ -135,13 +135,13 @@ pub record HasUntaken (ways : List WayState) (tag : Tag) : Type 0 where
   pub way_at : slice_get ways i ≡ Some way
   pub tag_at : slice_get way.untaken j ≡ Some tag
 
--- and of a place
+-- a command of a lost generation at a place that its server has not taken
 pub record HasUntakenAt (sites : List SiteState) (place : ℕ) (tag : Tag) : Type 0 where
   pub site : SiteState
   pub at : slice_get sites place ≡ Some site
   pub has : HasUntaken site.lost tag
 
--- where one site is another
+-- one site is replaced
 pub untaken_set : (sites : List SiteState) (place : ℕ) (now : SiteState) (other : ℕ) (tag : Tag) → HasUntakenAt (slice_set sites place now) other tag
     → ((place ≡ other) × HasUntaken now.lost tag) ⊎ HasUntakenAt sites other tag
 untaken_set sites place now other tag h = elim (got_set sites place now other h.site h.at) [
@@ -149,7 +149,7 @@ untaken_set sites place now other tag h = elim (got_set sites place now other h.
   | inr k ↦ inr (record { site = h.site; at = k.1; has = h.has })
 ]
 
--- where it has none that the one before did not have
+-- the new site has none that the one before did not have
 pub untaken_still : (sites : List SiteState) (place : ℕ) (site now : SiteState) → slice_get sites place ≡ Some site → ((tag : Tag) → HasUntaken now.lost tag → HasUntaken site.lost tag)
     → (other : ℕ) (tag : Tag) → HasUntakenAt (slice_set sites place now) other tag → HasUntakenAt sites other tag
 untaken_still sites place site now at fewer other tag h = elim (untaken_set sites place now other tag h) [
@@ -157,7 +157,7 @@ untaken_still sites place site now at fewer other tag h = elim (untaken_set site
   | inr k ↦ k
 ]
 
--- where one generation has others, each of which it had, and where one is gone
+-- one generation has fewer of them, and one is gone
 pub untaken_fewer : (ways : List WayState) (i : ℕ) (way now : WayState) (tag : Tag) → slice_get ways i ≡ Some way
     → ((j : ℕ) → slice_get now.untaken j ≡ Some tag → (k : ℕ) × (slice_get way.untaken k ≡ Some tag)) → HasUntaken (slice_set ways i now) tag → HasUntaken ways tag
 untaken_fewer ways i way now tag at fewer h = elim (got_set ways i now h.i h.way h.way_at) [

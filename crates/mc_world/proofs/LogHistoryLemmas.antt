@@ -22,7 +22,7 @@ pub as_many : (order : Order) (log : Log) (histories : ℕ → List Entry) (plac
 as_many order log histories place h =
     sym (length-map (histories place) (λ (e : Entry). e.moment)) ∙ ap (λ (ms : List ℕ). length ms) (h.moments place) ∙ moments-count place log
 
--- an order in which what was lost is
+-- an order that keeps what was lost
 abbrev pub KeepsLost : Order → Order → Type 0
 KeepsLost order order' = (tag : Tag) → outcome_at order tag ≡ Some Lost → outcome_at order' tag ≡ Some Lost
 
@@ -44,7 +44,7 @@ ordered_kept order order' d e lost h same = elim (h same) [
   ])
 ]
 
--- an entry that was there
+-- an earlier entry stays placed
 placed_stays : (order order' : Order) (log : Log) (x : Logged) (histories : ℕ → List Entry) (place k : ℕ) (e : Entry) → KeepsLost order order' → HistoriesHold order log histories
     → slice_get (histories place) k ≡ Some e → IsPlaced order' (before (serves place) k (log ++ x ∷ [])) e
 placed_stays order order' log x histories place k e lost h at =
@@ -52,7 +52,7 @@ placed_stays order order' log x histories place k e lost h at =
     subst (λ (l : Log). IsPlaced order' l e) (sym (before-stays (serves place) k log x early))
     (placed_kept order order' (before (serves place) k log) e lost (h.placed place k e at))
 
--- where no server takes a request
+-- no server takes a request
 pub histories_go : (order order' : Order) (log : Log) (x : Logged) (histories now : ℕ → List Entry) → ((place : ℕ) → moment_of place x ≡ []) → KeepsLost order order'
     → ((place : ℕ) → now place ≡ histories place) → HistoriesHold order log histories → HistoriesHold order' (log ++ x ∷ []) now
 histories_go order order' log x histories now none lost same h = record {
@@ -65,7 +65,7 @@ histories_go order order' log x histories now none lost same h = record {
       (h.ordered place j k d e (ap (λ (es : List Entry). slice_get es j) (sym (same place)) ∙ first) (ap (λ (es : List Entry). slice_get es k) (sym (same place)) ∙ second) lt);
 }
 
--- where the server of a place takes one
+-- the server of a place takes one
 histories_serve_own : (order : Order) (log : Log) (place generation : ℕ) (e : Entry) (histories now : ℕ → List Entry) → now place ≡ histories place ++ e ∷ []
     → IsPlaced order log e → HistoriesHold order log histories → (k : ℕ) (d : Entry) → slice_get (now place) k ≡ Some d
     → IsPlaced order (before (serves place) k (log ++ Happened (ServerTurn place generation e.moment) ∷ [])) d

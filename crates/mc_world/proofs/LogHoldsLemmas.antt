@@ -1,4 +1,4 @@
--- A log still leaves a pool so after each event of which it tells little: one lemma for each.
+-- A log still leaves a pool so after each event of which it shows little: one lemma for each.
 use Rattle.std.proofs.Common.{◌≡◌, ◌≢◌, ◌∙◌, ⊎_elim, ℕ, ◌+◌, ◌<◌, Bool, true, false, if◌then◌else◌, List, [], ◌∷◌, ◌++◌, length, drop, take, map, slice_set, refl, sym, ap, subst, arith}
 use Rattle.std.specs.Prelude.{remove}
 use Rattle.std.proofs.lemmas.Bool.Decides.{eqb_tells}
@@ -63,7 +63,7 @@ log_client_goes opening order outs log client old new e h =
     (still_sites old new (ap (λ (p : ProxyState). p.ring) e.proxy) (ap (λ (p : ProxyState). length p.links) e.proxy) (open_without client old.proxy new.proxy e.proxy e.not_open) e.sites)
     (λ place. ap (λ (p : ProxyState). (link_at p.links place).up) e.proxy) h
 
--- a proxy in which the link of one place alone is another, that is up as it was
+-- a proxy in which only the link of one place is replaced, and that one stays up or down
 record IsRelinked (old new : PoolState) : Type 0 where
   pub ring : new.proxy.ring ≡ old.proxy.ring
   pub links : length new.proxy.links ≡ length old.proxy.links
@@ -135,7 +135,7 @@ log_end_seen opening order outs log place generation i old new e h =
     refl (λ tag has. untaken_removed e.there.site.lost i tag has))
     r.ups h
 
--- a link that is another, as an event of its place says; those of other places are as they were
+-- a link is replaced, as an event of its place says; those of other places stay
 ups_changed : (links : List LinkState) (place : ℕ) (link : LinkState) (x : Logged) → place < length links → up_by place x (link_at links place).up ≡ link.up
     → ((other : ℕ) (up : Bool) → place ≢ other → up_by other x up ≡ up)
     → (other : ℕ) → (link_at (with_link place link links) other).up ≡ up_by other x (link_at links other).up

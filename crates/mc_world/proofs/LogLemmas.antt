@@ -1,4 +1,4 @@
--- A log that goes on.
+-- A log that grows.
 use Rattle.std.proofs.Common.{◌≡◌, ◌∙◌, ℕ, zero, suc, ◌+◌, ◌<◌, ◌≤◌, ◌==◌, Bool, true, false, if◌then◌else◌, List, [], ◌∷◌, ◌++◌, length, refl, sym, ap, append_assoc, append-nil, arith}
 use Rattle.std.proofs.lemmas.List.{length-append}
 use Rattle.mc_ring.specs.Rings.{RingState}
@@ -23,7 +23,7 @@ pub up-push : (place : ℕ) (up : Bool) (log : Log) (e : Logged) → up_from pla
 up-push place up [] e = refl
 up-push place up (x ∷ xs) e = up-push place (up_by place x up) xs e
 
--- the place of an event that was there
+-- the place of an earlier event
 pub before-more : (is : Logged → Bool) (number : ℕ) (log more : Log) → number < number_of is log → before is number (log ++ more) ≡ before is number log
 before-more is number [] more h = absurd (omega (arith, h))
 before-more is zero (x ∷ xs) more h =
@@ -42,12 +42,12 @@ before-more is (suc number) (x ∷ xs) more h =
 pub before-stays : (is : Logged → Bool) (number : ℕ) (log : Log) (e : Logged) → number < number_of is log → before is number (log ++ e ∷ []) ≡ before is number log
 before-stays is number log e h = before-more is number log (e ∷ []) h
 
--- one that is of another kind is before it
+-- an event of another kind is before it
 pub before-other : (is : Logged → Bool) (number : ℕ) (x : Logged) (xs : Log) → is x ≡ false → before is number (x ∷ xs) ≡ x ∷ before is number xs
 before-other is zero x xs other = rw other refl
 before-other is (suc number) x xs other = rw other refl
 
--- the place of an event after so many of its kind, and of the one that was done last
+-- the place of an event after a number of its kind, and of the last event
 pub before-here : (is : Logged → Bool) (log : Log) (e : Logged) (more : Log) → is e ≡ true → before is (number_of is log) (log ++ e ∷ more) ≡ log
 before-here is [] e more h = rw h refl
 before-here is (x ∷ xs) e more h =
@@ -60,7 +60,7 @@ before-here is (x ∷ xs) e more h =
 pub before-last : (is : Logged → Bool) (log : Log) (e : Logged) → is e ≡ true → before is (number_of is log) (log ++ e ∷ []) ≡ log
 before-last is log e h = before-here is log e [] h
 
--- one event more that is not counted, and one that is
+-- one more event that is not counted, and one that is
 pub number-none : (is : Logged → Bool) (log : Log) (e : Logged) → is e ≡ false → number_of is (log ++ e ∷ []) ≡ number_of is log
 number-none is log e none =
     let more = number-push is log e in
@@ -109,7 +109,7 @@ IsEvent (Happened event) = Unit {0}
 IsEvent (Joined server address) = ⊥
 IsEvent (Restarted server) = ⊥
 
--- it leaves the ring as it was
+-- such an event leaves the ring as it was
 pub ring-push : (opening now : RingState) (log : Log) (e : Logged) → IsEvent e → IsRingAfter opening log now → IsRingAfter opening (log ++ e ∷ []) now
 ring-push opening now [] (Happened event) is h = h
 ring-push opening now [] (Joined server address) is h = absurd is

@@ -1,4 +1,4 @@
--- The order in which a server takes the commands of a client that came over a living generation.
+-- The order in which a server takes the commands of a client that arrived over a living generation.
 use Rattle.std.proofs.Common.{◌≡◌, ◌∙◌, ⊎_elim, ℕ, ◌+◌, ◌-◌, true, List, ◌∷◌, ◌++◌, length, drop, take, Some, slice_get, sym, ap, subst, append_assoc, arith}
 use Rattle.std.proofs.lemmas.Bool.{cases_lt}
 use Rattle.std.proofs.lemmas.List.{take-append-drop}
@@ -25,7 +25,7 @@ use Rattle.mc_world.proofs.CommandLemmas.{times-one, times_is_count}
 use Rattle.mc_world.proofs.LogEntryLemmas.{got_map, got_mapped}
 use Rattle.mc_world.proofs.SiteLemmas.{at_place}
 
--- what an entry of a history was made of
+-- the command of which an entry of a history was made
 pub record IsMadeOf (place : ℕ) (order : Order) (made : List Made) (j : ℕ) (d : Entry) : Type 0 where
   pub m : Made
   pub at : slice_get made j ≡ Some m
@@ -64,7 +64,7 @@ made_or_not place order lane link opening site up h numbered j k m made other =
     let once = living.once m.command.1 in
     omega (arith, first, second, few, one, counted, once)
 
--- what the server took of a client came before what it takes next
+-- a command of a client that the server took was sent before the one that it takes next
 pub made_before : (place : ℕ) (order : Order) (lane : Lane) (link : LinkState) (opening : CacheState) (site : SiteState) (up : link.up ≡ true) (h : SiteHolds place order lane link opening site)
     → ((number : ℕ) → AreInOrder (entries_of number order)) → (command : Tagged) (after : List Tagged) → (h.living up).others ≡ command ∷ after
     → (j : ℕ) (d : Entry) → slice_get site.history j ≡ Some d → d.client ≡ command.1.session → IsBefore (tag_in d) command.1

@@ -31,11 +31,11 @@ often_taken client (Happened (ProxyTurn of) ∷ es) =
     ])
 often_taken client (e ∷ es) = often_taken client es
 
--- so many requests of each client were taken
+-- the number of requests of each client that were taken
 pub turns-taken : (order : Order) (log : Log) → map (λ (e : Asked). e.session) order ≡ turns_of log → (client : ℕ) → length (entries_of client order) ≡ number_of (takes client) log
 turns-taken order log turns client = often_asked client order ∙ ap (λ (cs : List ℕ). often client cs) turns ∙ often_taken client log
 
--- a log that goes on
+-- a log that grows
 pub turns-push : (log : Log) (e : Logged) → turns_of (log ++ e ∷ []) ≡ turns_of log ++ turn_of e
 turns-push [] e = append-nil (turn_of e)
 turns-push (x ∷ xs) e = ap (λ (cs : List ℕ). turn_of x ++ cs) (turns-push xs e) ∙ sym (append_assoc (turn_of x) (turns_of xs) (turn_of e))

@@ -1,4 +1,4 @@
--- An order as what becomes of its commands is noted.
+-- An order while outcomes of its commands are noted.
 use Rattle.std.proofs.Common.{◌≡◌, ◌∙◌, ℕ, zero, suc, ◌+◌, ◌==◌, ◌⊎◌, inl, inr, Bool, true, false, if◌then◌else◌, List, [], ◌∷◌, map, Some, slice_get, refl, sym, ap, subst, arith}
 use Rattle.std.specs.Prelude.{All}
 use Rattle.std.proofs.lemmas.Bool.{and_from, eq-eqb}
@@ -17,7 +17,8 @@ use Rattle.mc_account.proofs.WithinLemmas.{within-note}
 use Rattle.mc_history.specs.Made.{Each}
 use Rattle.mc_history.proofs.OutcomeLemmas.{command_note, note_back, own_of}
 
--- The same requests, of whose commands more is known: what was lost is, and what was answered is.
+-- The same requests, with more outcomes known: a lost command stays lost, and an answered one
+-- answered.
 pub record Goes (old new : Order) : Type 0 where
   pub sessions : map (λ (e : Asked). e.session) new ≡ map (λ (e : Asked). e.session) old
   pub rings : (client request : ℕ) (e : Asked) → asked_at new client request ≡ Some e → (d : Asked) × (asked_at old client request ≡ Some d) × (e.ring ≡ d.ring)
@@ -64,7 +65,7 @@ with_own (suc at) outcome [] q e = absurd (none-some q e)
 with_own zero outcome (x ∷ xs) q e = refl
 with_own (suc at) outcome (x ∷ xs) q e = with_own at outcome xs q e
 
--- a command of which something was known: something is
+-- a command that had a known outcome has one
 some_in : (t : Tag) (outcome : Outcome) (es : Order) (k a : ℕ) (q : Outcome) → outcome_in (slice_get es k) a ≡ Some q → (r : Outcome) × (outcome_in (slice_get (note t outcome es) k) a ≡ Some r)
 some_in t outcome [] zero a q e = absurd (none-some q e)
 some_in t outcome [] (suc k) a q e = absurd (none-some q e)
@@ -79,7 +80,7 @@ note_some t outcome order tag q e =
     let there = some_in t outcome (entries_of tag.session order) tag.request tag.atom q e in
     (there.0, ap (λ (es : Order). outcome_in (slice_get es tag.request) tag.atom) (entries-note tag.session t outcome order) ∙ there.1)
 
--- the command of which it is noted
+-- the command whose outcome is noted
 own_in : (t : Tag) (outcome : Outcome) (es : Order) (at k : ℕ) (q : Outcome) → map (λ (e : Asked). e.request) es ≡ numbers_from at es → Each (λ (e : Asked). e.session ≡ t.session) es
     → k + at ≡ t.request → outcome_in (slice_get es k) t.atom ≡ Some q → outcome_in (slice_get (note t outcome es) k) t.atom ≡ Some outcome
 own_in t outcome [] at zero q numbered own number e = absurd (none-some q e)
@@ -101,7 +102,7 @@ note_own t outcome order q numbered e =
 pub awaited_not_lost : Awaited ≡ Lost → ⊥
 awaited_not_lost e = absurd cc
 
--- what is lost stays lost where what was awaited is noted
+-- a lost command stays lost when the outcome of an awaited one is noted
 lost_stays : (t : Tag) (outcome : Outcome) (order : Order) → ((number : ℕ) → AreInOrder (entries_of number order)) → outcome_at order t ≡ Some Awaited
     → (tag : Tag) → outcome_at order tag ≡ Some Lost → outcome_at (note t outcome order) tag ≡ Some Lost
 lost_stays t outcome order numbered awaited tag lost =
@@ -120,7 +121,7 @@ ring_noted t outcome [] (suc k) e at = absurd (none-some e at)
 ring_noted t outcome (x ∷ xs) zero e at = (x, refl, ap (λ (y : Asked). y.ring) (sym (same_Some (note_in t outcome x) e at)))
 ring_noted t outcome (x ∷ xs) (suc k) e at = ring_noted t outcome xs k e at
 
--- and whose it is
+-- the client of a request
 sessions-note : (t : Tag) (outcome : Outcome) (es : Order) → map (λ (e : Asked). e.session) (note t outcome es) ≡ map (λ (e : Asked). e.session) es
 sessions-note t outcome [] = refl
 sessions-note t outcome (e ∷ es) = ap (λ (cs : List ℕ). e.session ∷ cs) (sessions-note t outcome es)

@@ -1,4 +1,4 @@
--- The requests that were taken and the answers that were put out after an event that is logged.
+-- The requests that were taken and the answers that were emitted after an event that is logged.
 use Rattle.std.proofs.Common.{◌≡◌, ◌≢◌, ◌∙◌, ⊎_elim, ℕ, ◌<◌, ◌≤◌, inl, inr, true, false, List, [], ◌∷◌, ◌++◌, map, Some, sym, ap, subst, append-nil, arith}
 use Rattle.std.specs.Prelude.{All}
 use Rattle.std.proofs.lemmas.Bool.{cases_lt}
@@ -27,14 +27,14 @@ use Rattle.mc_world.proofs.LogLemmas.{before-last, before-stays, number-none, nu
 use Rattle.mc_world.proofs.LogOrderLemmas.{turns-none, turns-push, turns-taken}
 use Rattle.mc_world.proofs.LogOutcomeLemmas.{Goes}
 
--- the ring of a request that was taken is that of then
+-- the ring of a request that was taken is that of its moment
 ring_stays : (opening : RingState) (places : ℕ) (order : Order) (log : Log) (e : Logged) (client request : ℕ) (d : Asked) → RequestsHold opening places order log
     → asked_at order client request ≡ Some d → IsRingAfter opening (before (takes client) request (log ++ e ∷ [])) d.ring
 ring_stays opening places order log e client request d h at =
     let early : request < number_of (takes client) log = omega (arith, got_inside (entries_of client order) request d at, turns-taken order log h.turns client) in
     subst (λ (l : Log). IsRingAfter opening l d.ring) (sym (before-stays (takes client) request log e early)) (h.rings client request d at)
 
--- where no request is taken
+-- no request is taken
 pub requests_go : (opening : RingState) (places now : ℕ) (order order' : Order) (log : Log) (e : Logged) → now ≡ places → turn_of e ≡ [] → Goes order order'
     → RequestsHold opening places order log → RequestsHold opening now order' (log ++ e ∷ [])
 requests_go opening places now order order' log e as_many none goes h = record {
@@ -46,7 +46,7 @@ requests_go opening places now order order' log e as_many none goes h = record {
   inside = goes.inside now (subst (λ (n : ℕ). All (IsRoutedWithin n) order) (sym as_many) h.inside);
 }
 
--- where one is
+-- a request is taken
 pub requests_take : (opening : RingState) (places now : ℕ) (order : Order) (asked : Asked) (log : Log) (e : Logged) → now ≡ places
     → takes asked.session e ≡ true → turn_of e ≡ asked.session ∷ [] → IsRingAfter opening log asked.ring → IsRoutedWithin places asked
     → RequestsHold opening places order log → RequestsHold opening now (order ++ asked ∷ []) (log ++ e ∷ [])
@@ -65,7 +65,7 @@ requests_take opening places now order asked log e as_many own turn ring routed 
   inside = subst (λ (n : ℕ). All (IsRoutedWithin n) (order ++ asked ∷ [])) (sym as_many) (All-push (IsRoutedWithin places) order asked h.inside routed);
 }
 
--- an open session that was open, and of which as many are answered
+-- an open session that was open, with as many answers
 abbrev pub WasOpen : ProxyState → ProxyState → Type 0
 WasOpen old new =
     (client : ℕ) (session : SessionState) → session_at new client ≡ Some session → (first : SessionState) × (session_at old client ≡ Some first) × (answered session ≡ answered first)
@@ -75,7 +75,7 @@ after_stays : (client request : ℕ) (log : Log) (e : Logged) → request < numb
     → request < number_of (takes client) (before (puts client) request (log ++ e ∷ []))
 after_stays client request log e early h = subst (λ (l : Log). request < number_of (takes client) l) (sym (before-stays (puts client) request log e early)) h
 
--- where no answer is put out
+-- no answer is emitted
 pub answers_go : (order order' : Order) (outs : ℕ → List ℕ) (log : Log) (e : Logged) (old new : ProxyState) → ((client : ℕ) → puts client e ≡ false)
     → ((client count : ℕ) (out : List ℕ) → AreAnswers client order count out [] → AreAnswers client order' count out []) → WasOpen old new
     → AnswersHold order outs log old → AnswersHold order' outs (log ++ e ∷ []) new
@@ -100,7 +100,7 @@ after_last client log e request own early last few =
     let place : before (puts client) request (log ++ e ∷ []) ≡ log = ap (λ (n : ℕ). before (puts client) n (log ++ e ∷ [])) same ∙ before-last (puts client) log e own in
     subst (λ (l : Log). request < number_of (takes client) l) (sym place) (omega (arith, same, few))
 
--- where one is
+-- an answer is emitted
 pub answers_put : (texts sent : ℕ → List ℕ) (order : Order) (lanes : ℕ → Lane) (client : ℕ) (outs outs' : ℕ → List ℕ) (log : Log) (e : Logged) (old new : ProxyState)
     → puts client e ≡ true → ((other : ℕ) → client ≢ other → puts other e ≡ false) → ProxyHolds texts sent order lanes old → ProxyHolds texts sent order lanes new
     → (steps : Steps client old new (Alone (IsEmit emits.Done))) → ((other : ℕ) → client ≢ other → outs' other ≡ outs other) → outs' client ≡ sent client ++ steps.after.output

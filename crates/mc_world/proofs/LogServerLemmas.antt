@@ -31,7 +31,7 @@ servers_go opening log e old new event alike ups none h = record {
       up-push place true log e ∙ ap (λ (v : Bool). up_by place e v) (h.no_links place out) ∙ none place out;
 }
 
--- an event by which no link is lost or comes back
+-- an event by which no link is lost or comes up
 pub servers_stay : (opening : RingState) (log : Log) (e : Logged) (old new : PoolState) → IsEvent e → ((place : ℕ) (up : Bool) → up_by place e up ≡ up) → AreAlike old new
     → ((place : ℕ) → (link_at new.proxy.links place).up ≡ (link_at old.proxy.links place).up)
     → ServersHold opening log old → ServersHold opening (log ++ e ∷ []) new

@@ -1,4 +1,4 @@
--- Events of which a log tells nothing, and what they leave of a pool.
+-- Events of which a log shows nothing, and what they leave of a pool.
 use Rattle.std.proofs.Common.{◌≡◌, ◌∙◌, ⊎_elim, ℕ, Bool, false, List, [], ◌∷◌, ◌++◌, length, Option, None, Some, slice_get, slice_set, refl, sym, ap, subst}
 use Rattle.std.proofs.lemmas.Bool.{cases_lt}
 use Rattle.std.proofs.lemmas.Bool.Decides.{eqb_tells}
@@ -40,7 +40,7 @@ pub record IsStill (old new : PoolState) : Type 0 where
   pub histories : (place : ℕ) → histories_of new.sites place ≡ histories_of old.sites place
   pub untaken : (place : ℕ) (tag : Tag) → HasUntakenAt new.sites place tag → HasUntakenAt old.sites place tag
 
--- whatever becomes of its links
+-- the log leaves the pool so, whatever becomes of its links
 pub log_links : (opening : RingState) (order : Order) (outs : ℕ → List ℕ) (log : Log) (x : Logged) (old new : PoolState) → IsQuiet x → IsStill old new
     → ServersHold opening (log ++ x ∷ []) new → LogHolds opening order outs log old → LogHolds opening order outs (log ++ x ∷ []) new
 log_links opening order outs log x old new quiet still servers h = record {
@@ -51,17 +51,17 @@ log_links opening order outs log x old new quiet still servers h = record {
   commands = commands_still opening (length old.sites) order log x old.sites new.sites h.requests still.histories still.untaken h.commands;
 }
 
--- links that are up as they were
+-- links that are up if they were
 abbrev pub AreUpAs : PoolState → PoolState → Type 0
 AreUpAs old new = (place : ℕ) → (link_at new.proxy.links place).up ≡ (link_at old.proxy.links place).up
 
--- where no link is lost or comes back
+-- no link is lost or comes up
 pub log_quiet : (opening : RingState) (order : Order) (outs : ℕ → List ℕ) (log : Log) (x : Logged) (old new : PoolState) → IsQuiet x → ((place : ℕ) (up : Bool) → up_by place x up ≡ up)
     → IsStill old new → AreUpAs old new → LogHolds opening order outs log old → LogHolds opening order outs (log ++ x ∷ []) new
 log_quiet opening order outs log x old new quiet no_link still ups h =
     log_links opening order outs log x old new quiet still (servers_stay opening log x old new quiet.event no_link still.alike ups h.servers) h
 
--- as many are answered of each session
+-- each session has as many answers
 pub open_as_many : (old new : ProxyState) → ((client : ℕ) → answered_at new client ≡ answered_at old client) → WasOpen old new
 open_as_many old new same client session at = answered_there (session_at old client) (session_at new client) session (same client) at
 
@@ -72,7 +72,7 @@ open_without client old new is gone other session at = ⊎_elim
     (λ differ. (session, sym (without_other client other old.sessions differ.1) ∙ sym (ap (λ (p : ProxyState). session_at p other) is) ∙ at, refl))
     (eqb_tells client other)
 
--- the links, where that of one place is another that is up as it was
+-- the links, after that of one place is replaced by another that is up if it was
 pub ups_with : (links : List LinkState) (place : ℕ) (link : LinkState) → link.up ≡ (link_at links place).up → (other : ℕ) → (link_at (with_link place link links) other).up ≡ (link_at links other).up
 ups_with links place link same other = ⊎_elim
     (λ own. subst (λ (p : ℕ). (link_at (with_link place link links) p).up ≡ (link_at links p).up) own.1
@@ -81,7 +81,7 @@ ups_with links place link same other = ⊎_elim
     (λ differ. ap (λ (l : LinkState). l.up) (link_other place other link links differ.1))
     (eqb_tells place other)
 
--- the sites are the same
+-- the sites stay
 pub still_sites : (old new : PoolState) → new.proxy.ring ≡ old.proxy.ring → length new.proxy.links ≡ length old.proxy.links → WasOpen old.proxy new.proxy → new.sites ≡ old.sites → IsStill old new
 still_sites old new ring links open_ones sites = record {
   alike = record {
@@ -94,7 +94,7 @@ still_sites old new ring links open_ones sites = record {
   untaken = λ place tag has. subst (λ (ss : List SiteState). HasUntakenAt ss place tag) sites has;
 }
 
--- the site of one place is another, with that history and nothing untaken that was not before
+-- the site of one place is another, with that history and no more untaken commands
 pub still_at : (old new : PoolState) (place : ℕ) (site now : SiteState) → new.proxy.ring ≡ old.proxy.ring → length new.proxy.links ≡ length old.proxy.links → WasOpen old.proxy new.proxy
     → slice_get old.sites place ≡ Some site → new.sites ≡ slice_set old.sites place now → now.history ≡ site.history → ((tag : Tag) → HasUntaken now.lost tag → HasUntaken site.lost tag)
     → IsStill old new
@@ -109,11 +109,11 @@ still_at old new place site now ring links open_ones at sites history untaken = 
   untaken = λ other tag has. untaken_still old.sites place site now at untaken other tag (subst (λ (ss : List SiteState). HasUntakenAt ss other tag) sites has);
 }
 
--- ways that are the same
+-- the ways stay
 pub same_ways : (ways now : List WayState) → now ≡ ways → (tag : Tag) → HasUntaken now tag → HasUntaken ways tag
 same_ways ways now same tag h = subst (λ (ws : List WayState). HasUntaken ws tag) same h
 
--- what a session's client takes changes nothing else of a proxy
+-- bytes that a session's client takes change nothing else of a proxy
 pub sent_ring : (client count : ℕ) (session : Option SessionState) (p : ProxyState) → (sent_by client count session p).ring ≡ p.ring
 sent_ring client count None p = refl
 sent_ring client count (Some session) p = refl

@@ -1,4 +1,4 @@
--- What a log tells of the commands of a request that has just been taken.
+-- What a log shows of the commands of a request that has just been taken.
 use Rattle.std.proofs.Common.{◌≡◌, ◌∙◌, ℕ, zero, suc, ◌<◌, inl, inr, true, false, if◌then◌else◌, List, [], ◌∷◌, ◌++◌, length, map, Option, Some, slice_get, refl, sym, ap, subst, arith}
 use Rattle.std.proofs.lemmas.Option.{none-some, same_Some}
 use Rattle.mc_ring.specs.Rings.{RingState}
@@ -26,7 +26,7 @@ use Rattle.mc_world.proofs.LogHistoryLemmas.{KeepsLost}
 use Rattle.mc_world.proofs.LogLemmas.{before-last, number-before}
 use Rattle.mc_world.proofs.LogOrderLemmas.{turns-taken}
 
--- what becomes at once of a command
+-- the outcome that a command has at once
 at_once_of : (links : List LinkState) (routes : List Routed) (k : ℕ) (routed : Routed) (outcome : Outcome) → slice_get routes k ≡ Some routed
     → slice_get (map (at_once links) routes) k ≡ Some outcome → outcome ≡ at_once links routed
 at_once_of links [] zero routed outcome at known = absurd (none-some routed at)
@@ -45,7 +45,7 @@ none_yet opening places order log histories place tag requests h next k d at sam
     let number : d.request ≡ tag.request = ap (λ (t : Tag). t.request) same in
     omega (arith, placed, few, turns-taken order log requests.turns d.client, size, number, next)
 
--- what the log tells of a command is what becomes of it at once
+-- the log shows of a command the outcome that it has at once
 told_at_once : (place : ℕ) (tag : Tag) (history : List Entry) (log : Log) (x : Logged) (link : LinkState) → takes tag.session x ≡ true → tag.request ≡ number_of (takes tag.session) log
     → is_up place log ≡ link.up → HasNone history tag → IsTold place tag history (log ++ x ∷ []) (outcome_by link)
 told_at_once place tag history log x link own number up none =
@@ -56,7 +56,7 @@ told_at_once place tag history log x link own number up none =
       | false ↦ λ h. inl (h, none)
     ]) was
 
--- what was lost is, where one more was taken
+-- a lost command stays lost when one more request is taken
 pub lost_pushed : (order : Order) (asked : Asked) → KeepsLost order (order ++ asked ∷ [])
 lost_pushed order asked tag lost =
     let e = request_known (asked_at order tag.session tag.request) tag.atom Lost lost in

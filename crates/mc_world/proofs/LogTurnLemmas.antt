@@ -1,4 +1,4 @@
--- A log still leaves a pool so after a request was taken, an answer put out, and a turn of a server: one lemma for each.
+-- A log still leaves a pool so after a request was taken, an answer emitted, and a turn of a server: one lemma for each.
 use Rattle.std.proofs.Common.{◌≡◌, ◌≢◌, ◌∙◌, ⊎_elim, ℕ, suc, ◌≤◌, inl, inr, true, false, List, [], ◌∷◌, ◌++◌, length, map, Some, slice_get, slice_set, refl, sym, ap, subst, arith}
 use Rattle.std.proofs.lemmas.Bool.{cases_Bool}
 use Rattle.std.proofs.lemmas.List.{length-set}
@@ -67,7 +67,7 @@ log_puts opening texts sent order lanes outs outs' log client old new e was is o
           (λ place tag has. subst (λ (ss : List SiteState). HasUntakenAt ss place tag) e.sites has) h.commands;
     }
 
--- links to which commands are handed are up as they were
+-- links to which commands are handed are up if they were
 received_stays : (cs : List Tagged) (link : LinkState) → (received cs link).up ≡ link.up
 received_stays cs link =
     ⊎_elim (λ (up : link.up ≡ true). ap (λ (l : LinkState). l.up) (received_up cs link up)) (λ (down : link.up ≡ false). ap (λ (l : LinkState). l.up) (received_down cs link down)) (cases_Bool link.up)
@@ -114,7 +114,7 @@ served : (old new : PoolState) (place : ℕ) (site now : SiteState) (entry : Ent
     → now.history ≡ site.history ++ entry ∷ [] → HasServed old new place entry
 served old new place site now entry at is history = grind (arith, length-set, history_at, history_other, history_own)
 
--- a turn of a server, where the proxy is as it was
+-- a turn of a server, with the proxy as it was
 log_serves : (opening : RingState) (order : Order) (outs : ℕ → List ℕ) (log : Log) (place generation : ℕ) (entry : Entry) (old new : PoolState) → new.proxy ≡ old.proxy
     → HasServed old new place entry → ((other : ℕ) (tag : Tag) → HasUntakenAt new.sites other tag → HasUntakenAt old.sites other tag)
     → IsPlaced order log entry → ((j : ℕ) (d : Entry) → slice_get (histories_of old.sites place) j ≡ Some d → AreOrdered order d entry)

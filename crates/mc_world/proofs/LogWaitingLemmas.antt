@@ -1,4 +1,4 @@
--- What a log tells of the commands that wait on a link, and what became of them where it is lost.
+-- What a log shows of the pending commands on a link, and their outcomes when it is lost.
 use Rattle.std.proofs.Common.{◌≡◌, ◌∙◌, ℕ, ◌+◌, ◌⊎◌, inl, inr, true, List, [], ◌∷◌, ◌++◌, map, drop, Some, slice_get, slice_set, refl, sym, ap, subst, arith}
 use Rattle.std.proofs.lemmas.Option.{same_Some}
 use Rattle.mc_request.specs.declared.parts.Atom.{Atom}
@@ -32,11 +32,11 @@ use Rattle.mc_world.proofs.LogLemmas.{before-last, number-one}
 use Rattle.mc_world.proofs.LogOutcomeLemmas.{all_back, all_lost, goes_note_all}
 use Rattle.mc_world.proofs.SiteLemmas.{get_past}
 
--- the tags of what waits on the link of a place
+-- the tags of the pending commands on the link of a place
 abbrev pub tags_waiting : ProxyState → ℕ → List Tag
 tags_waiting proxy place = map (λ (w : Waiting). w.1) (link_at proxy.links place).waiting
 
--- A command that waits: its reply is awaited, so it was sent, and its request was taken and is not answered.
+-- A pending command: its reply is awaited, so it was sent, and its request was taken and is not answered.
 pub record Waits (place : ℕ) (order : Order) (log : Log) (tag : Tag) : Type 0 where
   pub atom : Atom (List ℕ)
   pub command : command_at order tag ≡ Some (to_place place atom)
@@ -62,7 +62,7 @@ waits_at opening places texts sent order lanes outs log old place index tag prox
       unanswered = awaited_not_answered tag.session order (number_of (puts tag.session) log) (outs tag.session) [] tag (answers.put tag.session) awaited refl;
     }
 
--- where its link is lost, the log tells so
+-- when its link is lost, the log shows it
 lost_now : (place : ℕ) (order : Order) (log : Log) (tag : Tag) → Waits place order log tag → WasLost place tag (log ++ Happened (LinkLost place) ∷ [])
 lost_now place order log tag w =
     let last = sym (before-last (loses place) log (Happened (LinkLost place)) (own_number place)) in (
@@ -72,7 +72,7 @@ lost_now place order log tag w =
       subst (λ (l : Log). NotAnswered tag l) last w.unanswered,
     )
 
--- what is known of each command
+-- the outcome of each command that is known
 news_lost : (texts sent : ℕ → List ℕ) (order : Order) (lanes : ℕ → Lane) (log : Log) (proxy : ProxyState) (place : ℕ) (histories : ℕ → List Entry) → ProxyHolds texts sent order lanes proxy
     → (link_at proxy.links place).up ≡ true → ((index : ℕ) (tag : Tag) → slice_get (tags_waiting proxy place) index ≡ Some tag → Waits place order log tag)
     → News order (note_all (tags_waiting proxy place) Lost order) histories (log ++ Happened (LinkLost place) ∷ [])
@@ -91,7 +91,7 @@ news_lost texts sent order lanes log proxy place histories holds up waits tag p 
           ))))
     ]
 
--- of which commands it is kept that their server has not taken them
+-- the commands that the lost generation keeps as untaken
 untaken_lost : (place : ℕ) (order : Order) (log : Log) (link : LinkState) (site : SiteState) (tag : Tag)
     → ((index : ℕ) → slice_get (map (λ (w : Waiting). w.1) link.waiting) index ≡ Some tag → IsUntaken place order log tag)
     → HasUntaken (cut_off link site).lost tag → (HasUntaken site.lost tag) ⊎ (IsUntaken place order log tag)

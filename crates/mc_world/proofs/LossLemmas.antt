@@ -1,4 +1,4 @@
--- A server and its ways hold after the loss and the return of its link, and after the server has restarted.
+-- A server and its ways hold after its link is lost and comes up again, and after the server has restarted.
 use Rattle.std.proofs.Common.{◌≡◌, ◌≢◌, ◌∙◌, ℕ, zero, suc, ◌+◌, ◌⊎◌, inl, inr, true, List, [], ◌∷◌, ◌++◌, length, map, drop, Some, None, slice_get, refl, sym, ap, ap₂, subst, append-nil, arith}
 use Rattle.std.specs.List.{list_all}
 use Rattle.std.proofs.lemmas.List.{drop-drop, drop-map, drop_all, length-map, map-append}
@@ -28,7 +28,7 @@ use Rattle.mc_history.proofs.NamedLemmas.{Keeps, each_back, kept_named, named_si
 use Rattle.mc_world.proofs.SiteLemmas.{get_none, good_since, tags_wait}
 use Rattle.mc_history.specs.Named.{IsNamed, tags_made, tags_of, times}
 
--- what is in a list with one more after
+-- an element of a list with one more at its end
 pub get_pushed : (ways : List WayState) (way : WayState) (i : ℕ) (w : WayState) → slice_get (ways ++ way ∷ []) i ≡ Some w
     → (slice_get ways i ≡ Some w) ⊎ ((i ≡ length ways) × (w ≡ way))
 get_pushed [] way zero w e = inr (refl, sym (same_Some way w e))
@@ -39,7 +39,7 @@ get_pushed (x ∷ xs) way (suc i) w e = elim (get_pushed xs way i w e) [
   | inr h ↦ inr (ap suc h.0, h.1)
 ]
 
--- so many commands after the first
+-- a number of commands after the first
 drop_front : (front back : List Tagged) (count ahead : ℕ) → ahead + count ≡ length front
     → drop ahead (drop count (map (λ (c : Tagged). c.1) (front ++ back))) ≡ map (λ (c : Tagged). c.1) back
 drop_front front back count ahead h =
@@ -48,7 +48,8 @@ drop_front front back count ahead h =
     ∙ ap₂ (λ (n : ℕ) (ts : List Tag). drop n ts) size (map-append (λ (c : Tagged). c.1) front back)
     ∙ drop-append_seam (map (λ (c : Tagged). c.1) front) (map (λ (c : Tagged). c.1) back)
 
--- the link is lost: its bytes go on their way, and whose the commands are that the server has not taken is kept with them
+-- the link is lost: its bytes go on their way, and the tags of the commands that the server has not taken are kept with
+-- them
 pub site_lost : (place : ℕ) (order order' : Order) (lane : Lane) (link link' : LinkState) (opening : CacheState) (site : SiteState) (generation : ℕ)
     → link.up ≡ true → link'.up ≢ true → Keeps order order' → NoNews place order order' → commands_to place order' ≡ commands_to place order → LaneHolds place order lane link
     → SiteHolds place order lane link opening site
@@ -117,14 +118,14 @@ no_commands : (cs : List Tagged) → map read_as cs ≡ [] → cs ≡ []
 no_commands [] e = refl
 no_commands (c ∷ cs) e = absurd cc
 
--- of a number that was not given yet nothing was made
+-- nothing was made on a connection whose number was not given yet
 none_made : (opening : CacheState) (made : List Made) (texts sent : ℕ → List ℕ) (server : ServerState) → ServerHolds opening texts sent (map taking_of made) server
     → commands_on server.admitted made ≡ []
 none_made opening made texts sent server h =
     let none : map read_as (commands_on server.admitted made) ≡ [] = sym (taken_on server.admitted made) ∙ (h.unused server.admitted (omega arith)).nothing_taken in
     no_commands (commands_on server.admitted made) none
 
--- the link is back: the server has admitted a connection for it
+-- the link comes up: the server has admitted a connection for it
 pub site_back : (place : ℕ) (order : Order) (lane : Lane) (link link' : LinkState) (opening : CacheState) (site : SiteState) (generation : ℕ)
     → connection_at site.server site.server.admitted ≡ None
     → SiteHolds place order lane link opening site

@@ -1,4 +1,4 @@
--- A server and its ways hold after what happens at the proxy, and after the loss and the return of a link.
+-- A server and its ways hold after what happens at the proxy, and after a link is lost or comes up.
 use Rattle.std.proofs.Common.{◌≡◌, ◌≢◌, ◌∙◌, ℕ, zero, suc, ◌+◌, ◌-◌, ◌<◌, ◌≤◌, ◌⊎◌, inl, inr, true, List, [], ◌∷◌, ◌++◌, length, map, drop, take, Option, None, Some, slice_get, refl, sym, ap, ap₂, subst, append_assoc, arith}
 use Rattle.std.specs.List.{list_all}
 use Rattle.std.proofs.lemmas.List.{drop-append-le, drop-map, length-append, length-map, map-append}
@@ -35,7 +35,7 @@ use Rattle.mc_world.proofs.SiteLemmas.{at_place, get_past, good_since, stood_at,
 use Rattle.mc_account.specs.Lookups.{command_at, outcome_at}
 use Rattle.mc_history.specs.Named.{IsNamed, tags_of, times}
 
--- a lost way, where the order goes on
+-- a lost way, when the order goes on
 pub lost_kept : (place : ℕ) (order longer : Order) (made : List Made) (texts : ℕ → List ℕ) (server : ServerState) (way : WayState) → Keeps order longer
     → IsLostWay place order made texts server way → IsLostWay place longer made texts server way
 lost_kept place order longer made texts server way keeps h = record {
@@ -48,13 +48,13 @@ lost_kept place order longer made texts server way keeps h = record {
   named = kept_named place order longer h.others keeps h.named;
 }
 
--- what was made, likewise
+-- the commands that were made, likewise
 pub made_kept : (place : ℕ) (order longer : Order) (made : List Made) → Keeps order longer
     → Each (λ (m : Made). IsNamed place order m.command) made → Each (λ (m : Made). IsNamed place longer m.command) made
 made_kept place order longer made keeps h =
     each_weaker (λ (m : Made). IsNamed place order m.command) (λ (m : Made). IsNamed place longer m.command) made (λ m k. keeps m.command.1 (to_place place m.command.0) k) h
 
--- What a site is on of an order and a lane: where these are the same, it is on.
+-- A site depends on these parts of an order and a lane: if they stay, it holds.
 pub site_kept : (place : ℕ) (order order' : Order) (lane lane' : Lane) (link link' : LinkState) (opening : CacheState) (site : SiteState)
     → Keeps order order' → NoNews place order order' → commands_to place order' ≡ commands_to place order
     → (link'.up ≡ true → link.up ≡ true)
@@ -92,7 +92,7 @@ site_kept place order order' lane lane' link link' opening site keeps news comma
       apart_living = λ up'. h.apart_living (still up');
     }
 
--- a request was taken: its commands go after those that were sent
+-- a request was taken: its commands are after those that were sent
 pub site_asked : (place : ℕ) (order : Order) (e : Asked) (lane : Lane) (link link' : LinkState) (opening : CacheState) (site : SiteState)
     → (link'.up ≡ true → link.up ≡ true) → (link.up ≡ true → lane.since ≤ length order) → list_all is_good (commands_in place e) ≡ true → e.request ≡ length (entries_of e.session order)
     → ((atom : ℕ) (reply : AReply (List ℕ)) → slice_get e.outcomes atom ≢ Some (Reply reply))
@@ -134,7 +134,7 @@ site_asked place order e lane link link' opening site still since good number fr
       apart_living = λ up'. h.apart_living (still up');
     }
 
--- a connection that was sent bytes of its output is open still, and so are the others
+-- a connection whose output was sent in part stays open, and so do the others
 sent_own : (number count : ℕ) (server : ServerState) (end : ConnectionState) → connection_at server number ≡ Some end
     → connection_at (sent_by number count (connection_at server number) server) number ≡ Some (record end { output = drop count end.output })
 sent_own number count server end is =
@@ -151,7 +151,7 @@ cache_sent : (number count : ℕ) (end : Option ConnectionState) (server : Serve
 cache_sent number count None server = refl
 cache_sent number count (Some end) server = refl
 
--- bytes come back from the living connection
+-- bytes of the living connection arrive at the proxy
 pub site_returned : (place : ℕ) (order : Order) (lane : Lane) (link link' : LinkState) (opening : CacheState) (site : SiteState) (count : ℕ)
     → link.up ≡ true → SiteHolds place order lane link opening site
     → SiteHolds place order (record lane { came = lane.came ++ take count (output_of (connection_at site.server site.connection)) }) link' opening
@@ -198,7 +198,7 @@ site_returned place order lane link link' opening site count up h =
       apart_living = λ _. h.apart_living up;
     }
 
--- what is at a place of a list, and of one that it is the front of
+-- the element at an index of a list, and of a longer list that begins with it
 pub get_some : {X : Type 0} (xs : List X) (n : ℕ) → n < length xs → (x : X) × (slice_get xs n ≡ Some x)
 get_some [] n h = absurd (omega (arith, h))
 get_some (x ∷ xs) zero h = (x, refl)
@@ -246,7 +246,7 @@ entry_after number made n tag reply others tag_at inside told_at =
 told_same : (q reply : AReply (List ℕ)) → Reply q ≡ Reply reply → q ≡ reply
 told_same q reply e = cc
 
--- a reply was taken of the living connection: it is one that the server gave
+-- a reply of the living connection was taken: it is one that the server gave
 pub record IsReplied (place : ℕ) (order : Order) (lane : Lane) (link : LinkState) (opening : CacheState) (site : SiteState) (tag : Tag) : Type 0 where
   pub some : 1 ≤ site.ahead
   pub named : (atom : Atom (List ℕ)) × (command_at order tag ≡ Some (to_place place atom))

@@ -1,4 +1,4 @@
--- What a world is made of when it is opened.
+-- The parts of a world when it is opened.
 use Rattle.std.proofs.Common.{◌≡◌, ◌∙◌, ℕ, List, [], length, ap}
 use Rattle.std.specs.Prelude.{replicate}
 use Rattle.mc_ring.specs.Rings.{RingState}
@@ -11,7 +11,7 @@ use Rattle.mc_world.specs.Worlds.{ClientState, CourseState, WorldState, first_si
 use Rattle.mc_world.proofs.AppliesLemmas.{pool_of}
 use Rattle.mc_world.proofs.WayLemmas.{course_of}
 
--- the course, of its parts
+-- the course, from its parts
 pub opened_as : (losses : Losses) (ring : RingState) (clients budget items stores : ℕ) (pool : PoolState) (proxy : ProxyState) (sites : List SiteState) (list : List ClientState) (log : Log)
     → pool ≡ pool_of proxy sites → proxy ≡ opening_proxy losses ring clients → sites ≡ replicate stores (first_site (opening_cache budget items 0)) → stores ≡ length ring.servers
     → list ≡ replicate clients nobody → log ≡ [] → course_of pool list log ≡ (world_opened losses ring clients budget items).course
@@ -23,7 +23,7 @@ opened_as losses ring clients budget items stores pool proxy sites list log pool
     ∙ ap (λ (cs : List ClientState). course_of (world_opened losses ring clients budget items).course.pool cs log) list_is
     ∙ ap (λ (l : Log). course_of (world_opened losses ring clients budget items).course.pool (replicate clients nobody) l) log_is
 
--- the world
+-- the world, from its course
 abbrev pub world_of : CourseState → Losses → RingState → ℕ → ℕ → WorldState
 world_of course losses opening budget items = record { course = course; losses = losses; opening = opening; budget = budget; items = items }
 

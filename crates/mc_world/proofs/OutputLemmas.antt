@@ -1,4 +1,4 @@
--- What is put out to clients and not taken, where a pool goes on.
+-- The bytes that were emitted to clients and not taken, when a pool goes on.
 use Rattle.std.proofs.Common.{◌≡◌, ◌≢◌, ◌∙◌, ⊎_elim, ℕ, zero, suc, ◌-◌, ◌==◌, true, false, if◌then◌else◌, List, [], ◌∷◌, drop, Option, Some, None, refl, sym, ap, subst}
 use Rattle.std.specs.Prelude.{nat_lt}
 use Rattle.std.specs.Option.{option_map}
@@ -28,7 +28,7 @@ pub unsent_other : (number : ℕ) (old new : ProxyState) (Step : List LinkState 
 unsent_other number old new Step h n differ =
     ap output_of (ap (λ (sessions : Sessions). session_in sessions n) h.is ∙ updated_other number n h.after old.sessions differ)
 
--- one that puts nothing out
+-- a step of a session that emits nothing
 pub unsent_kept : (number : ℕ) (old new : ProxyState) (Step : List LinkState → List LinkState → SessionState → SessionState → Type 0) (h : Steps number old new Step)
     → h.after.output ≡ h.before.output → (n : ℕ) → unsent new.sessions n ≡ unsent old.sessions n
 unsent_kept number old new Step h same n =
@@ -83,7 +83,7 @@ unsent_sent_other client count p n differ =
 pub unsent_gone : (client : ℕ) (sessions : Sessions) (n : ℕ) → client ≢ n → unsent (without client sessions) n ≡ unsent sessions n
 unsent_gone client sessions n differ = ap output_of (without_other client n sessions differ)
 
--- a client that takes all that was put out, and then goes
+-- a client that takes all that was emitted, and then goes
 pub without_updated : (client : ℕ) (after : SessionState) (sessions : Sessions) → without client (updated client after sessions) ≡ without client sessions
 without_updated client after [] = refl
 without_updated client after (x ∷ xs) =

@@ -1,4 +1,4 @@
--- The choice for lost commands stays, and the answers are by it.
+-- The choice for lost commands stays, and the answers follow it.
 use Rattle.std.proofs.Common.{◌≡◌, ◌∙◌, ℕ, zero, suc, ◌==◌, inl, inr, Bool, true, false, if◌then◌else◌, List, [], ◌∷◌, ◌++◌, take, None, Some, Result, Ok, Err, IfOk, OnOk, OnErr, refl, ap, ap₂}
 use Rattle.std.specs.Prelude.{All}
 use Rattle.std.proofs.lemmas.List.Elements.{All-cons, All-head, All-nil, All-tail}
@@ -32,7 +32,7 @@ sent_losses client count p =
 same_losses : (old new : ProxyState) → new ≡ old → new.losses ≡ old.losses
 same_losses old new same = ap (λ (p : ProxyState). p.losses) same
 
--- each event
+-- each event keeps the choice
 happened_losses : (event : Event (List ℕ)) (old new : PoolState) → Happens event old new → new.proxy.losses ≡ old.proxy.losses
 happened_losses (ClientBytes client bytes) old new h = h.1.steps.losses
 happened_losses (ClientGone client) old new h = ap (λ (p : ProxyState). p.losses) h.1.proxy
@@ -56,7 +56,7 @@ happened_losses (ServerSeesEnd server generation) old new h = same_losses old.pr
 kept : (old new : CourseState) → new ≡ old → new.pool.proxy.losses ≡ old.pool.proxy.losses
 kept old new same = ap (λ (c : CourseState). c.pool.proxy.losses) same
 
--- a restart
+-- a restart keeps it
 restart_keeps_losses : (place : ℕ) (cache : CacheState) (old new : CourseState) → HasServerRestarted place cache old new → new.pool.proxy.losses ≡ old.pool.proxy.losses
 restart_keeps_losses place cache old new h =
     let cut : h.cut.pool.proxy.losses ≡ old.pool.proxy.losses = elim h.loses [
@@ -65,7 +65,7 @@ restart_keeps_losses place cache old new h =
     ] in
     same_losses h.cut.pool.proxy new.pool.proxy h.pool.proxy ∙ cut
 
--- any list of calls
+-- any list of calls keeps it
 pub called_losses : (opening : CacheState) (calls : List Call) (old new : CourseState) → Calls opening calls old new → new.pool.proxy.losses ≡ old.pool.proxy.losses
 called_losses opening [] old new run = kept old new run
 called_losses opening (Step event ∷ calls) old new run =
@@ -87,7 +87,7 @@ called_losses opening (Restart place ∷ calls) old new run =
     ] in
     called_losses opening calls run.0 new run.2 ∙ first
 
--- a step, a join, and a restart, that may have been refused
+-- a step, a join, and a restart, which may have been refused, keep it
 pub stepped_losses : (event : Event (List ℕ)) (r : Result AStep WorldError) (old new : CourseState) → IfOk r (λ step. Does step (IsDone event old new) (new ≡ old))
     → OnErr r (new ≡ old) → new.pool.proxy.losses ≡ old.pool.proxy.losses
 stepped_losses event (Ok Done) old new done refused = happened_losses event old.pool new.pool done.pool

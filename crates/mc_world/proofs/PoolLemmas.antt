@@ -43,7 +43,7 @@ use Rattle.mc_world.proofs.SiteLemmas.{site_fed, site_turned}
 use Rattle.mc_world.proofs.TurnLemmas.{entered_site, late_site}
 use Rattle.mc_account.specs.Lookups.{command_at}
 
--- what is at a place where the site of one place is another
+-- the element at a place after the site of one place is replaced
 pub set_site : (sites : List SiteState) (i : ℕ) (now : SiteState) (j : ℕ) (s : SiteState) → slice_get (slice_set sites i now) j ≡ Some s
     → ((i ≡ j) × (s ≡ now)) ⊎ ((i ≢ j) × (slice_get sites j ≡ Some s))
 set_site [] i now zero s e = absurd (none-some s e)
@@ -53,20 +53,20 @@ set_site (x ∷ xs) zero now (suc j) s e = inr (λ same. omega (arith, same), e)
 set_site (x ∷ xs) (suc i) now zero s e = inr (λ same. omega (arith, same), e)
 set_site (x ∷ xs) (suc i) now (suc j) s e = grind (arith, set_site xs i now j s e)
 
--- the sites hold, where the one of a place does and the others do
+-- the sites hold, if the one of a place does and the others do
 sites_with : (opening : CacheState) (order : Order) (lanes : ℕ → Lane) (old new : PoolState) (place : ℕ) (now : SiteState) → new.sites ≡ slice_set old.sites place now
     → SiteHolds place order (lanes place) (link_at new.proxy.links place) opening now
     → ((other : ℕ) (site : SiteState) → place ≢ other → slice_get old.sites other ≡ Some site → SiteHolds other order (lanes other) (link_at new.proxy.links other) opening site)
     → (other : ℕ) (site : SiteState) → slice_get new.sites other ≡ Some site → SiteHolds other order (lanes other) (link_at new.proxy.links other) opening site
 sites_with opening order lanes old new place now is own others other site at = grind (arith, slice_get, set_site)
 
--- a proxy is where the link of one place, and what passed over it, are others
+-- a proxy holds after the link of one place and its lane are replaced
 relinked : (texts sent : ℕ → List ℕ) (order : Order) (lanes : ℕ → Lane) (place : ℕ) (lane : Lane) (link : LinkState) (old : ProxyState) → place < length old.links
     → LinkHolds place order lane link → ProxyHolds texts sent order lanes old → ProxyHolds texts sent order (changed place lane lanes) (record old { links = with_link place link old.links })
 relinked texts sent order lanes place lane link old inside own h =
     grind (arith, eqb_tells, link_other, link_own, changed-other, changed-own)
 
--- all sites, where the links are the same
+-- all sites hold, if the links stay
 same_sites : (opening : CacheState) (order : Order) (lanes : ℕ → Lane) (old new : PoolState) → new.sites ≡ old.sites → new.proxy.links ≡ old.proxy.links
     → ((place : ℕ) (site : SiteState) → slice_get old.sites place ≡ Some site → SiteHolds place order (lanes place) (link_at old.proxy.links place) opening site)
     → (place : ℕ) (site : SiteState) → slice_get new.sites place ≡ Some site → SiteHolds place order (lanes place) (link_at new.proxy.links place) opening site
@@ -113,7 +113,7 @@ pool_takes opening texts sent order lanes client old new e h =
       bytes = h.bytes;
     }
 
--- the link of another place, where the proxy's links are with another one at this place
+-- the link of another place, after the one at this place is replaced
 other_link : (opening : CacheState) (order order' : Order) (lanes lanes' : ℕ → Lane) (place other : ℕ) (links links' : List LinkState) (site : SiteState)
     → link_at links' other ≡ link_at links other → lanes' other ≡ lanes other
     → Keeps order order' → NoNews other order order' → commands_to other order' ≡ commands_to other order → commands_of_lane other order' (lanes other) ≡ commands_of_lane other order (lanes other)
@@ -208,7 +208,7 @@ pool_reaches_proxy opening texts sent order lanes place count old new e h =
       bytes = h.bytes;
     }
 
--- what noting an outcome leaves of the commands that were sent
+-- noting an outcome keeps the commands that were sent
 sent-note : (place : ℕ) (tag : Tag) (outcome : Outcome) (order : Order) (lane : Lane) → commands_of_lane place (note tag outcome order) lane ≡ commands_of_lane place order lane
 sent-note place tag outcome order lane =
     ap (λ (es : Order). commands_to place es) (drop-map (note_in tag outcome) lane.since order) ∙ commands-note place tag outcome (drop lane.since order)

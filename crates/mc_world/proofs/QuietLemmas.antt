@@ -67,7 +67,7 @@ unserved pool place site stuck at up some =
     stuck (ServerTurn place site.generation 0) refl
     (omega arith, inl (record { site = site; at = at; is = refl; up = up }, record { site = site; at = at; up = up; waits = some }))
 
--- what is said of a link on which nothing can be done
+-- what holds of a link on which nothing can be done
 record LinkIsQuiet (link : LinkState) : Type 0 where
   pub waiting : link.waiting ≡ []
   pub output : link.output ≡ []
@@ -92,7 +92,7 @@ link_quiet ring opening c h stuck place =
           record { waiting = ap (λ (l : LinkState). l.waiting) nothing; output = ap (λ (l : LinkState). l.output) nothing }
     ]) refl
 
--- all that was told over a link
+-- replies are known outcomes; and so are all outcomes of a link on which nothing can be done
 replied_told : (replies : List (AReply (List ℕ))) → list_all is_told (map (λ reply. Reply reply) replies) ≡ true
 replied_told [] = refl
 replied_told (r ∷ rs) = replied_told rs
@@ -140,7 +140,7 @@ session_quiet ring opening c h stuck few client session at =
     let all : length (taken_of client h.order) ≡ length (requests_of (text_of c client)) = ap (λ (ts : List Taken). length ts) whole in
     record { output = no_output; answered = omega (arith, put, zero_left, numbered, size, all) }
 
--- no end of a lost generation is left to be seen
+-- each end of a lost generation was seen
 lost_none : (pool : PoolState) (place : ℕ) (site : SiteState) → IsStuck pool → slice_get pool.sites place ≡ Some site → site.lost ≡ []
 lost_none pool place site stuck at =
     (elim site.lost as (λ ways. site.lost ≡ ways → ways ≡ []) [
@@ -175,7 +175,7 @@ course_quiet ring opening c h few stuck = record {
   lost = λ place site at. lost_none c.pool place site stuck at;
 }
 
--- so it is of each course that calls lead to
+-- this holds of each course that calls lead to
 pub calls_quiet : (losses : Losses) (ring : RingState) (clients budget items : ℕ) (calls : List Call) (c : CourseState) → IsRing ring → IsWithinBounds budget items
     → Calls (opening_cache budget items 0) calls (world_opened losses ring clients budget items).course c
     → ((client : ℕ) → number_of (takes client) c.log < 2 ^ 64 - 1) → IsStuck c.pool → IsQuiet c

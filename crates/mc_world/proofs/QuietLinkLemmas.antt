@@ -21,18 +21,18 @@ use Rattle.mc_world.specs.Sites.{SiteHolds}
 use Rattle.mc_world.specs.WorldState.{SiteState}
 use Rattle.mc_world.proofs.SiteLemmas.{joined}
 
--- where no byte can be moved there is none
+-- if no byte can be moved there is none
 pub none_left : (xs : List ℕ) → ((0 < 1) × (0 < length xs) → ⊥) → xs ≡ []
 none_left [] never = refl
 none_left (x ∷ xs) never = absurd (never (omega arith, omega arith))
 
--- there is one at each place that is inside
+-- each index inside a list has an element
 pub some_at : {T : Type 0} (xs : List T) (i : ℕ) → i < length xs → (x : T) × (slice_get xs i ≡ Some x)
 some_at [] i inside = absurd (omega (arith, inside))
 some_at (x ∷ xs) zero inside = (x, refl)
 some_at (x ∷ xs) (suc i) inside = some_at xs i (omega (arith, inside))
 
--- where replies to all commands have come and none can be taken, no command waits
+-- if replies to all commands have arrived and none can be taken, no command is pending
 waiting_none : (commands : List Tagged) (later : List (AReply (List ℕ))) (link : LinkState) → link.waiting ≡ as_waiting commands → link.unread ≡ told commands later
     → CanHave commands later → length commands ≡ length later → ((tag : Tag) (reply : AReply (List ℕ)) (after : LinkState) → Takes link tag reply after → ⊥) → link.waiting ≡ []
 waiting_none [] later link waits unread can sizes never = waits
@@ -46,7 +46,8 @@ waiting_none (c ∷ cs) (r ∷ rs) link waits unread can sizes never =
       others = refl;
     }))
 
--- A living generation on which no byte moves, its server takes nothing and its proxy takes no reply: nothing waits on its link.
+-- On a living generation no byte moves, its server takes nothing and its proxy takes no reply: then no command is pending on
+-- its link.
 pub living_none : (place : ℕ) (order : Order) (lane : Lane) (link : LinkState) (opening : CacheState) (site : SiteState) → link.up ≡ true
     → SiteHolds place order lane link opening site → LaneHolds place order lane link → link.output ≡ [] → output_of (connection_at site.server site.connection) ≡ []
     → (0 < length (waiting_of (connection_at site.server site.connection)) → ⊥)

@@ -15,7 +15,7 @@ use Rattle.mc_proxy.specs.declared.session_limits.TheConstants.{LINK_MARK, MAX_U
 use Rattle.mc_proxy.specs.SessionState.{Unanswered}
 use Rattle.mc_account.specs.Orders.{Order, entries_of, is_complete, unanswered_of}
 
--- the requests of one session among complete ones are
+-- if all requests are complete, those of one session are
 pub complete_of : (session : ℕ) (order : Order) → list_all is_complete order ≡ true → list_all is_complete (entries_of session order) ≡ true
 complete_of session [] complete = refl
 complete_of session (e ∷ es) complete =
@@ -25,7 +25,7 @@ complete_of session (e ∷ es) complete =
       | false ↦ complete_of session es parts.1
     ])
 
--- the oldest of complete ones can be answered
+-- the oldest of complete requests can be answered
 can_answer : (session : SessionState) (u : Unanswered) (us : List Unanswered) → is_known u ≡ true → emitted_from session (u ∷ us) ≢ None
 can_answer session u us known none =
     (elim (is_known u) as (λ v. v ≡ true → (if v then Some (record session { output = session.output ++ answer_of_one u; unanswered = us }) else None) ≡ None → ⊥) [
@@ -33,7 +33,7 @@ can_answer session u us known none =
       | false ↦ λ e n. absurd cc
     ]) known none
 
--- so none is left where none can be answered
+-- no request is unanswered if none can be answered
 pub unanswered_none : (session : SessionState) (incomplete : Order) → session.unanswered ≡ map unanswered_of incomplete → list_all is_complete incomplete ≡ true
     → (emitted session ≢ None → ⊥) → incomplete ≡ []
 unanswered_none session [] unanswered complete never = refl
@@ -53,7 +53,7 @@ links_unmarked links (command ∷ commands) none =
     ap (λ (v : Bool). v || list_any (λ c. is_link_marked (link_at links c.server)) commands) (link_unmarked (link_at links command.server) (none command.server))
     ∙ links_unmarked links commands none
 
--- and so has a session
+-- a session with nothing left has reached no mark
 unmarked : (session : SessionState) (links : List LinkState) (commands : List Routed) → session.unanswered ≡ [] → session.output ≡ [] → session.taken < 2 ^ 64 - 1
     → ((place : ℕ) → (link_at links place).output ≡ []) → is_marked session links commands ≡ false
 unmarked session links commands no_unanswered no_output few none =
@@ -64,7 +64,7 @@ unmarked session links commands no_unanswered no_output few none =
     ∙ ap (λ (v : Bool). v || list_any (λ c. is_link_marked (link_at links c.server)) commands) last
     ∙ links_unmarked links commands none
 
--- where no turn can be taken, no request is left
+-- if no turn can be taken, no request is left
 pub untaken_none : (ring : RingState) (links : List LinkState) (session : SessionState) → session.unanswered ≡ [] → session.output ≡ [] → session.taken < 2 ^ 64 - 1
     → ((place : ℕ) → (link_at links place).output ≡ []) → (IsReady ring links session → ⊥) → rest_of session.reader [] ≡ []
 untaken_none ring links session no_unanswered no_output few none never =

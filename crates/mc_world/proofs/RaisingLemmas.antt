@@ -1,16 +1,16 @@
--- The links of a proxy that come up one after another.
+-- The links of a proxy that come up in sequence.
 use Rattle.std.proofs.Common.{◌≡◌, ℕ, zero, suc, ◌<◌, List, [], ◌∷◌, refl, ap, arith}
 use Rattle.std.specs.Prelude.{replicate}
 use Rattle.mc_link.specs.LinkState.{LinkState, down_link, up_link}
 use Rattle.mc_proxy.specs.SessionState.{link_at, with_link}
 
--- of so many links, the first are up
+-- this many links, of which the first are up
 abbrev pub raised : ℕ → ℕ → List LinkState
 raised zero many = replicate many (down_link 0)
 raised (suc up) zero = []
 raised (suc up) (suc many) = up_link 1 ∷ raised up many
 
--- one more
+-- one more link comes up
 pub raised-next : (up many : ℕ) → up < many → with_link up (up_link 1) (raised up many) ≡ raised (suc up) many
 raised-next up zero inside = absurd (omega (arith, inside))
 raised-next zero (suc many) inside = refl
@@ -22,7 +22,7 @@ raised-at up zero inside = absurd (omega (arith, inside))
 raised-at zero (suc many) inside = refl
 raised-at (suc up) (suc many) inside = raised-at up many (omega (arith, inside))
 
--- all of them
+-- all links are up
 pub raised-all : (many : ℕ) → raised many many ≡ replicate many (up_link 1)
 raised-all zero = refl
 raised-all (suc many) = ap (λ (links : List LinkState). up_link 1 ∷ links) (raised-all many)

@@ -29,7 +29,7 @@ use Rattle.mc_world.proofs.LogEntryLemmas.{got_inside}
 use Rattle.mc_world.proofs.QuietLemmas.{course_quiet}
 use Rattle.mc_world.proofs.SiteLemmas.{get_none}
 
--- the generation that is alive where a link is up
+-- if a link is up, its generation is alive
 own_lives : (pool : PoolState) (place : ℕ) (site : SiteState) → slice_get pool.sites place ≡ Some site → IsUp place pool → Lives place (generation_of (slice_get pool.sites place)) pool
 own_lives pool place site at up = record { site = site; at = at; is = sym (ap generation_of at); up = up }
 
@@ -61,7 +61,7 @@ none_lost moment c rested place generation lost =
       | way ∷ ways ↦ λ e. rested place inside (first_lost c.pool place lost.site way ways lost.at e)
     ]) refl
 
--- an output with bytes is that of a client that is there
+-- an output with bytes belongs to a client that exists
 taker : (c : CourseState) (client : ℕ) → 0 < length (output_at (session_at c.pool.proxy client)) → (session : SessionState) × (session_at c.pool.proxy client ≡ Some session)
 taker c client some =
     (elim (session_at c.pool.proxy client) as (λ o. session_at c.pool.proxy client ≡ o → (session : SessionState) × (session_at c.pool.proxy client ≡ Some session)) [

@@ -36,7 +36,7 @@ use Rattle.mc_world.proofs.OutputLemmas.{unsent}
 use Rattle.mc_world.proofs.PoolLemmas.{pool_restarts, set_site}
 use Rattle.mc_world.proofs.SiteLemmas.{get_none}
 
--- as many sites, and their histories are the same
+-- as many sites, with the same histories
 as_many_sites : (place : ℕ) (opening : CacheState) (old new : PoolState) → ServerRestarts place opening old new → length new.sites ≡ length old.sites
 as_many_sites place opening old new e = ap (λ (ss : List SiteState). length ss) e.sites ∙ length-set old.sites place (restarted opening e.site)
 
@@ -109,7 +109,7 @@ ended_now place log es begun life size is now =
     ∙ ap₂ (λ (n m : ℕ). drop n (take m es)) (taken_stays place (number_of (restarts place) log) log (Restarted place) (omega arith) ∙ sym is) (last ∙ sym size)
     ∙ ap (λ (fs : List Entry). drop begun fs) (take_all (length es) es (omega arith))
 
--- what each server took in each of its lives
+-- the entries of each server in each of its lives
 lives_restart : (ring : RingState) (opening : CacheState) (place : ℕ) (old : CourseState) (new : PoolState) (h : CourseHolds ring opening old)
     → ServerRestarts place opening old.pool new → LivesHold opening h.order (old.log ++ Restarted place ∷ []) new.sites
 lives_restart ring opening place old new h e =
@@ -156,7 +156,7 @@ lives_restart ring opening place old new h e =
           (eqb_tells place other));
     }
 
--- the course holds, where the link was down
+-- the course holds, if the link was down
 down_restarts : (ring : RingState) (opening : CacheState) (place : ℕ) (old new : CourseState) → IsGoodCache opening → CourseHolds ring opening old
     → ServerRestarts place opening old.pool new.pool → new.clients ≡ old.clients → new.log ≡ old.log ++ Restarted place ∷ [] → CourseHolds ring opening new
 down_restarts ring opening place old new good h e clients log =

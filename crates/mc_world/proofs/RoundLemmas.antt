@@ -1,4 +1,4 @@
--- The order of a drain's parts, and that no generation is lost by them.
+-- The order of a drain's parts; they lose no generation.
 use Rattle.std.proofs.Common.{◌≡◌, ◌∙◌, ⊎_elim, ℕ, suc, ◌+◌, ◌<◌, ◌||◌, inl, inr, Bool, true, false, List, [], ◌∷◌, Option, Some, None, length, slice_get, slice_set, refl, sym, ap, subst, arith}
 use Rattle.std.specs.List.{list_all}
 use Rattle.std.proofs.lemmas.Bool.{and_parts, cases_lt}
@@ -17,11 +17,11 @@ use Rattle.mc_world.proofs.PoolLemmas.{set_site}
 use Rattle.mc_world.proofs.RestLemmas.{first_lost}
 use Rattle.mc_world.proofs.SiteLemmas.{get_none}
 
--- this was done so many times
+-- this was done a number of times
 abbrev pub Times : (CourseState → CourseState → Type 0) → CourseState → CourseState → Type 0
 Times Does old new = (times : ℕ) × InOrder (λ time. Does) times old new
 
--- once more; and for the next number
+-- it was done once more; and for the next number
 pub times_more : (Does : CourseState → CourseState → Type 0) (a b c : CourseState) → Times Does a b → Does b c → Times Does a c
 times_more Does a b c first next = (suc first.0, (b, first.1, next))
 
@@ -30,7 +30,7 @@ order_more Does n a b c first next =
     let one : suc n ≡ n + 1 = omega arith in
     subst (λ (m : ℕ). InOrder Does m a c) one (b, first, next)
 
--- a loop ends where its last part does nothing
+-- a loop ends if its last part does nothing
 pub until_over : (moment : ℕ) (Over : CourseState → Type 0) (Does : CourseState → CourseState → Type 0) (did : Bool) (a : CourseState) (b c : WorldState) → did ≡ false
     → Times Does a b.course → IsOver moment Over did b c → Until Over Does a c.course
 until_over moment Over Does true a b c none times over = absurd cc
@@ -45,13 +45,13 @@ neither_did false two none none' = none'
 abbrev pub HasNoLost : ℕ → PoolState → Type 0
 HasNoLost place pool = (site : SiteState) → slice_get pool.sites place ≡ Some site → site.lost ≡ []
 
--- a list that has nothing
+-- an empty list
 nothing_there : (ways : List WayState) (i : ℕ) (way : WayState) → ways ≡ [] → slice_get ways i ≡ Some way → ⊥
 nothing_there ways i way none at =
     let clash : ◌≡◌ {A = Option WayState} None (Some way) = sym (get_none i) ∙ ap (λ (ws : List WayState). slice_get ws i) (sym none) ∙ at in
     absurd cc
 
--- where the sites are the same, and where that of one place is another
+-- the sites stay; and that of one place is another
 same_ended : (old new : PoolState) → new.sites ≡ old.sites → (k : ℕ) → HasNoLost k old → HasNoLost k new
 same_ended old new same k h site at = h site (ap (λ (ss : List SiteState). slice_get ss k) (sym same) ∙ at)
 
@@ -103,7 +103,7 @@ all_ended moment (e ∷ es) old new are done k h =
 pub drained_ended : (moment : ℕ) (old new : WorldState) → HasDrained moment old new → (k : ℕ) → HasNoLost k old.course.pool → HasNoLost k new.course.pool
 drained_ended moment old new h k none = all_ended moment h.drains.events old.course new.course h.drains.all h.drains.done k none
 
--- where no end is to be seen there is no lost generation
+-- if no end is left to be seen, no lost generation is left
 pub ended_here : (moment place : ℕ) (pool : PoolState) → IsIdle moment pool (SeeEnd place) → HasNoLost place pool
 ended_here moment place pool idle site at =
     (elim site.lost as (λ ways. site.lost ≡ ways → site.lost ≡ []) [
@@ -111,7 +111,7 @@ ended_here moment place pool idle site at =
       | way ∷ ways ↦ λ e. absurd (idle (first_lost pool place site way ways at e))
     ]) refl
 
--- and so it is at each server, where it is at the first so many that there are
+-- no server has a lost generation, if the first ones have none and these are all
 pub ended_all : (moment : ℕ) (old new : WorldState) → HasDrained moment old new → ((k : ℕ) → k < length old.course.pool.sites → HasNoLost k new.course.pool) → NoServer moment (λ k. SeeEnd k) new.course
 ended_all moment old new h first place inside lost =
     let none : HasNoLost place new.course.pool = (elim (cases_lt place (length old.course.pool.sites)) [

@@ -23,7 +23,7 @@ course_accounts losses ring opening c h chosen =
     subst (λ (l : Losses). Account l ring opening (text_of c) (put_out_of c) (history_of c) c.log) chosen
     (h.order, log_accounts ring opening (text_of c) (taken_by c) h.order h.lanes (put_out_of c) c.log c.pool h.pool h.log h.connections h.lives)
 
--- and so it does after every list of calls
+-- a course holds after every list of calls
 pub course_called : (ring : RingState) (opening : CacheState) (calls : List Call) (old new : CourseState) → IsGoodCache opening → CourseHolds ring opening old
     → Calls opening calls old new → CourseHolds ring opening new
 course_called ring opening [] old new good h run = subst (λ (c : CourseState). CourseHolds ring opening c) (sym run) h
@@ -46,7 +46,7 @@ course_called ring opening (Restart place ∷ calls) old new good h run =
       | inr same ↦ subst (λ (c : CourseState). CourseHolds ring opening c) (sym same) h
     ]) run.2
 
--- every list of calls
+-- every list of calls leads to an account
 pub calls_account : (losses : Losses) (ring : RingState) (clients budget items : ℕ) (calls : List Call) (c : CourseState) → IsRing ring → IsWithinBounds budget items
     → Calls (opening_cache budget items 0) calls (world_opened losses ring clients budget items).course c
     → Account losses ring (opening_cache budget items 0) (text_of c) (put_out_of c) (history_of c) c.log

@@ -37,7 +37,7 @@ no_requests : requests_of [] ≡ []
 unfolding requests_of requests_within
 no_requests = refl
 
--- where something of a reader can be taken, something can when more has come
+-- if something of a reader can be taken, something can when more has arrived
 still_some : (closed : Bool) (dropping : Option (Fault × ℕ)) (unread more : List ℕ) → 0 < length (rest_from closed dropping (unread ++ [])) → 0 < length (rest_from closed dropping (unread ++ more))
 still_some true dropping unread more some = some
 still_some false None unread more some =
@@ -45,23 +45,23 @@ still_some false None unread more some =
     grind (arith, append-nil, length-append)
 still_some false (Some d) unread more some = grind (arith, nat_lt, lt-ltb, ltb-true, length-append)
 
--- what a server reads of a connection on which these commands are on their way
+-- what a server reads of a connection while these commands are on their way
 abbrev Reads : ConnectionState → List ℕ → List Tagged → Type 0
 Reads end going others = (more : List ℕ) → rest_of end.reader (going ++ more) ≡ map read_as others ++ requests_of more
 
--- where one can be taken there is one
+-- if a request can be taken, one is on its way
 some_read : (end : ConnectionState) (going : List ℕ) (others : List Tagged) → Reads end going others → 0 < length (rest_of end.reader []) → 0 < length others
 some_read end going others reads some =
     let more : 0 < length (rest_of end.reader (going ++ [])) = still_some end.reader.closed end.reader.dropping end.reader.unread (going ++ []) some in
     grind (arith, length-append, length-map, no_requests)
 
--- the same of an open connection
+-- likewise for an open connection
 some_waits : (server : ServerState) (number : ℕ) (end : ConnectionState) (going : List ℕ) (others : List Tagged) → connection_at server number ≡ Some end → Reads end going others
     → 0 < length (waiting_of (connection_at server number)) → 0 < length others
 some_waits server number end going others is_open reads some =
     some_read end going others reads (subst (λ (o : Option ConnectionState). 0 < length (waiting_of o)) is_open some)
 
--- a server serves a proxy on it, where the commands can be spelled
+-- a server serves a proxy on it, if the commands can be encoded
 serves_on : (server : ServerState) (number : ℕ) (end : ConnectionState) (going : List ℕ) (others : List Tagged) → connection_at server number ≡ Some end → Reads end going others
     → list_all is_good others ≡ true → IsGoodCache server.cache → ServesProxy number server
 serves_on server number end going others is_open reads good good_cache = record {
@@ -74,22 +74,22 @@ serves_on server number end going others is_open reads good good_cache = record 
   good_cache = good_cache;
 }
 
--- the first part of joined bytes that are none is none
+-- if joined bytes are empty, so is their first part
 front_none : (xs ys : List ℕ) → xs ++ ys ≡ [] → xs ≡ []
 front_none [] ys e = refl
 front_none (x ∷ xs) ys e = absurd cc
 
--- the oldest of those who wait
+-- the oldest pending command
 same_head : (x y : Waiting) (xs ys : List Waiting) → x ∷ xs ≡ y ∷ ys → x.0 ≡ y.0
 same_head x y xs ys e = let first : x ≡ y = cc in ap (λ (w : Waiting). w.0) first
 
--- the later ones of commands that can be spelled can be
+-- if commands can be encoded, so can the later ones
 good_later : (count : ℕ) (commands : List Tagged) → list_all is_good commands ≡ true → list_all is_good (drop count commands) ≡ true
 good_later zero commands good = good
 good_later (suc count) [] good = refl
 good_later (suc count) (c ∷ cs) good = good_later count cs (and_parts (is_good c) (list_all is_good cs) good).1
 
--- where a reply can be taken, one was given that was not taken
+-- if a reply can be taken, one was given that was not taken
 some_later : (commands : List Tagged) (later : List (AReply (List ℕ))) (link after : LinkState) (tag : Tag) (reply : AReply (List ℕ)) (past : List ℕ) → Takes link tag reply after
     → list_all is_good commands ≡ true → link.waiting ≡ as_waiting commands → link.unread ++ past ≡ told commands later → 1 ≤ length later
 some_later commands (r ∷ rs) link after tag reply past takes good waits is = omega arith
@@ -98,7 +98,7 @@ some_later [] [] link after tag reply past takes good waits is =
 some_later (c ∷ cs) [] link after tag reply past takes good waits is =
     grind (arith, append_assoc, and_parts, atom_begins, not_nothing, front_none, same_head)
 
--- what is said of the living generation
+-- what holds of the living generation
 record LivingServes (link : LinkState) (site : SiteState) : Type 0 where
   pub serves : ServesProxy site.connection site.server
   pub waits : 0 < length (waiting_of (connection_at site.server site.connection)) → site.ahead < length link.waiting
@@ -139,7 +139,7 @@ living_serves place order lane link opening site up h holds =
           omega (arith, more, given, both, living.ahead);
     }
 
--- and of a lost one
+-- what holds of a lost generation
 record LostServes (site : SiteState) (way : WayState) : Type 0 where
   pub serves : ServesProxy way.connection site.server
   pub untaken : 0 < length (waiting_of (connection_at site.server way.connection)) → 0 < length way.untaken
@@ -159,7 +159,7 @@ lost_serves place order lane link opening site i way at h =
           omega (arith, more, sizes, length-map own.others (λ (c : Tagged). c.1));
     }
 
--- a site serves, where it holds
+-- a site serves, if it holds
 pub site_serves : (place : ℕ) (order : Order) (lane : Lane) (link : LinkState) (opening : CacheState) (site : SiteState) → site.generation ≡ link.generation
     → SiteHolds place order lane link opening site → LinkHolds place order lane link → SiteServes link site
 site_serves place order lane link opening site generation h holds = record {
@@ -172,7 +172,7 @@ site_serves place order lane link opening site generation h holds = record {
   untaken = λ i way at. (lost_serves place order lane link opening site i way at h).untaken;
 }
 
--- and the pool of a course that holds does
+-- the pool of a course that holds serves
 pub pool_serves : (ring : RingState) (opening : CacheState) (c : CourseState) → CourseHolds ring opening c → PoolServes c.pool
 pool_serves ring opening c h = record {
   sited = h.log.servers.sited ∙ sym h.log.servers.linked;

@@ -44,7 +44,7 @@ pub other_is : (number other : ℕ) (old new : ServerState) (Step : CacheState �
 other_is number other old new Step steps differ =
     ap (λ (cs : List (ℕ × ConnectionState)). connection_at (record new { connections = cs }) other) steps.is ∙ updated_other number other steps.after old.connections differ
 
--- and so is its way
+-- the way of another connection is as it was
 pub lost_elsewhere : (place : ℕ) (order : Order) (made : List Made) (texts texts' : ℕ → List ℕ) (old new : ServerState) (way : WayState) → texts' way.connection ≡ texts way.connection
     → connection_at new way.connection ≡ connection_at old way.connection → IsLostWay place order made texts old way → IsLostWay place order made texts' new way
 lost_elsewhere place order made texts texts' old new way same is h = grind arith
@@ -87,7 +87,7 @@ site_fed place order lane link link' opening site server piece up up' steps h =
       apart_living = λ _. h.apart_living up;
     }
 
--- what was made on a connection, where one more is
+-- the commands made on a connection, after one more is
 made_on-append : (number : ℕ) (xs ys : List Made) → made_on number (xs ++ ys) ≡ made_on number xs ++ made_on number ys
 made_on-append number [] ys = refl
 made_on-append number (x ∷ xs) ys =
@@ -100,12 +100,12 @@ commands_push_own made m = grind (arith, map-append, own_number, made_on-append)
 pub commands_push_other : (number : ℕ) (made : List Made) (m : Made) → m.connection ≢ number → commands_on number (made ++ m ∷ []) ≡ commands_on number made
 commands_push_other number made m differ = grind (arith, append-nil, other_number, made_on-append)
 
--- the way of another connection, where one more was made
+-- the way of another connection, after one more was made
 pub lost_untouched : (place : ℕ) (order : Order) (made : List Made) (m : Made) (texts : ℕ → List ℕ) (old new : ServerState) (way : WayState) → m.connection ≢ way.connection
     → connection_at new way.connection ≡ connection_at old way.connection → IsLostWay place order made texts old way → IsLostWay place order (made ++ m ∷ []) texts new way
 lost_untouched place order made m texts old new way differ is h = grind (arith, commands_push_other)
 
--- what a connection takes that reads these commands is the first of them
+-- a connection that reads these commands takes the first of them
 pub record IsNext (others : List Tagged) (what : Taken) : Type 0 where
   pub command : Tagged
   pub past : List Tagged
@@ -130,13 +130,13 @@ good_since place since order good =
     ap (λ (es : Order). commands_to place es) (sym (take-append-drop since order)) ∙ commands-append place (take since order) (drop since order) in
     (passes_parts is_good (commands_to place (take since order)) (commands_to place (drop since order)) (ap (λ (cs : List Tagged). list_all is_good cs) (sym whole) ∙ good)).1
 
--- where the living connection holds
+-- the living connection holds
 pub stood_at : (opening : CacheState) (made : List Made) (texts sent : ℕ → List ℕ) (lane : Lane) (site : SiteState) (end : ConnectionState) → ServerHolds opening texts sent (map taking_of made) site.server
     → connection_at site.server site.connection ≡ Some end → texts site.connection ≡ lane.out → sent site.connection ≡ lane.came
     → Holds opening site.connection lane.out (map taking_of made) lane.came end
 stood_at opening made texts sent lane site end h is_open out came = grind (arith, stood)
 
--- a living generation is joined
+-- the commands of a living generation: those before, and the others
 pub joined : (place : ℕ) (order : Order) (lane : Lane) (link : LinkState) (opening : CacheState) (site : SiteState) (up : link.up ≡ true) (h : SiteHolds place order lane link opening site)
     → LaneHolds place order lane link → AreJoined place order lane link opening h.made site.connection (h.living up).end (h.living up).others
 joined place order lane link opening site up h holds = grind (arith, good_since, stood_at)
@@ -172,7 +172,7 @@ takes_next place order lane link opening site server moment up steps h holds =
       good = (and_parts (is_good next.command) (list_all is_good next.past) (passes_parts is_good (commands_on site.connection h.made) (next.command ∷ next.past) good_all).1).0;
     }
 
--- what it makes of it
+-- the command that it makes of it
 abbrev pub made_of : SiteState → List Made → CacheState → Tagged → ℕ → Bool → Made
 made_of site all opening command moment refused = record {
   connection = site.connection;
@@ -192,7 +192,7 @@ pub is_made : (site : SiteState) (server : ServerState) (moment : ℕ) (opening 
     → IsMade (cache_of opening all) (made_of site all opening command moment steps.step.1.served.0)
 is_made site server moment opening all command steps what_is cache_is good can = grind (arith, one_tells, cache_of, commands_made)
 
--- and leaves a good cache good
+-- such a turn leaves a good cache good
 pub still_good : (s t : CacheState) (m : Made) (what : Taken) → what ≡ read_as m.command → t ≡ cache_after s (taking_by m.connection what m.moment m.refused)
     → is_good m.command ≡ true → m.moment < 2 ^ 63 → IsGoodCache s → IsGoodCache t
 still_good s t m what what_is is good below h = grind (arith, stays_good, cache_made)
@@ -213,7 +213,7 @@ appended site server moment opening all command reply steps what_is cache_is mad
     ∙ answer_made (cache_of opening all) (made_of site all opening command moment steps.step.1.served.0) made
     ∙ spelled_by_head command.0 (step_of (cache_of opening all) command.0 moment steps.step.1.served.0).1))
 
--- the tags of commands that wait
+-- the tags of pending commands
 pub tags_wait : (cs : List Tagged) → map (λ (w : Waiting). w.1) (as_waiting cs) ≡ map (λ (c : Tagged). c.1) cs
 tags_wait [] = refl
 tags_wait (c ∷ cs) = ap (λ (ts : List Tag). c.1 ∷ ts) (tags_wait cs)
@@ -227,7 +227,7 @@ get_past xs zero k = let same : k + 0 ≡ k = omega arith in ap (λ (i : ℕ). s
 get_past {X = X} [] (suc n) k = get_none {X = X} k ∙ sym (get_none {X = X} (k + suc n))
 get_past (x ∷ xs) (suc n) k = let same : k + suc n ≡ suc (k + n) = omega arith in get_past xs n k ∙ ap (λ (i : ℕ). slice_get (x ∷ xs) i) (sym same)
 
--- the command that the server takes next is the one that waits after those whose replies were not taken
+-- the command that the server takes next is the pending one after those whose replies were not taken
 pub waits_next : (place : ℕ) (order : Order) (lane : Lane) (link : LinkState) (opening : CacheState) (site : SiteState) (up : link.up ≡ true) (h : SiteHolds place order lane link opening site) (command : Tagged) (past : List Tagged)
     → LaneHolds place order lane link → (h.living up).others ≡ command ∷ past → slice_get (map (λ (w : Waiting). w.1) link.waiting) site.ahead ≡ Some command.1
 waits_next place order lane link opening site up h command past holds is =
@@ -251,12 +251,12 @@ pub others_of : (others : List Tagged) (command : Tagged) (past : List Tagged) �
     → (tag : Tag) → times tag (tags_of others) ≡ times tag (command.1 ∷ []) + times tag (tags_of past)
 others_of others command past is tag = grind arith
 
--- how often a tag is among what was made in all lives, where one more was made in this one
+-- how often a tag is among the commands made in all lives, after one more was made in this one
 pub one_more : (past made : List Made) (m : Made) (tag : Tag)
     → times tag (tags_made (past ++ (made ++ m ∷ []))) ≡ times tag (tags_made (past ++ made)) + times tag (m.command.1 ∷ [])
 one_more past made m tag = ap (λ (ms : List Made). times tag (tags_made ms)) (sym (append_assoc past made (m ∷ []))) ∙ times-made tag (past ++ made) m
 
--- a turn of the living connection: the history has the command that waits next, at that moment, with the bytes that the server appended
+-- a turn of the living connection: the history has the next pending command, at that moment, with the bytes that the server appended
 pub site_turned : (place : ℕ) (order : Order) (lane : Lane) (link : LinkState) (opening : CacheState) (site : SiteState) (server : ServerState) (moment : ℕ) (tag : Tag) (reply : List ℕ)
     → (up : link.up ≡ true) → (steps : Steps site.connection site.server server (IsTurn site.connection moment Took))
     → slice_get (map (λ (w : Waiting). w.1) link.waiting) site.ahead ≡ Some tag → steps.after.output ≡ steps.before.output ++ reply

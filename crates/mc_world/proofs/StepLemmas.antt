@@ -1,4 +1,4 @@
--- Events that are tried one after another.
+-- Events that are tried in sequence.
 use Rattle.std.proofs.Common.{◌≡◌, ◌∙◌, ◌↔◌, ◌+◌, ◌<◌, inl, inr, ℕ, zero, suc, true, false, List, [], ◌∷◌, ◌++◌, length, take, get_or, Result, Ok, Err, IfOk, OnOk, OnErr, MatchResult, is_ok, refl, sym, ap, subst, arith}
 use Rattle.std.specs.Result.{is_err}
 use Rattle.mc_ring.specs.Rings.{IsRing, RingState}
@@ -23,7 +23,7 @@ use Rattle.mc_world.proofs.RunLemmas.{course_accounts}
 use Rattle.mc_world.proofs.ServingLemmas.{pool_serves}
 use Rattle.mc_world.proofs.WorldOpeningLemmas.{course_opens}
 
--- one more
+-- one more event was tried
 pub runs-more : (events : List (Event (List ℕ))) (event : Event (List ℕ)) (old mid new : CourseState) (n m : ℕ) → RunsTo events old mid n → IsTried event mid new m
     → RunsTo (events ++ event ∷ []) old new (n + m)
 runs-more [] event old mid new n m runs tried =
@@ -33,14 +33,14 @@ runs-more (e ∷ es) event old mid new n m runs tried =
     let sum = runs.5 in
     (runs.0, runs.1, runs.2 + m, runs.3, runs-more es event runs.0 mid new runs.2 m runs.4 tried, omega (arith, sum))
 
--- what a course rests on where it holds
+-- a course that holds serves
 pub course_serves : (ring : RingState) (opening : CacheState) (c : CourseState) → CourseHolds ring opening c → CourseServes c
 course_serves ring opening c h = record {
   pool = pool_serves ring opening c h;
   clients = λ client session at. is_there ring opening c client session h at;
 }
 
--- a step that was done, or changed nothing, leaves a course where one is
+-- a step that was done, or changed nothing, keeps the invariant of a course
 pub course_steps : (ring : RingState) (opening : CacheState) (event : Event (List ℕ)) (step : Step) (old new : CourseState) → CourseHolds ring opening old
     → Does step (IsDone event old new) (new ≡ old) → CourseHolds ring opening new
 course_steps ring opening event Done old new h does = course_done ring opening event old new h does
@@ -64,14 +64,14 @@ pub stepped : (event : Event (List ℕ)) (r : Result Step WorldError) (old new :
 stepped event (Ok step) old new done applies = record { does = done; applies = applies }
 stepped event (Err e) old new done applies = done
 
--- an answer whose error is told as another is the same answer
+-- an answer whose error is mapped is the same answer
 pub answer_mapped : (P : Step → Type 0) (Bad : WorldError → Type 0) (r mapped : Result Step WorldError) → MatchResult r (λ step. mapped ≡ Ok step) Bad → is_ok mapped ≡ is_ok r
     → IfOk r P → IfOk mapped P
 answer_mapped P Bad (Ok step) mapped cases same told = subst (λ (m : Result Step WorldError). IfOk m P) (sym cases) told
 answer_mapped P Bad (Err e) (Ok step) cases same told = absurd cc
 answer_mapped P Bad (Err e) (Err other) cases same told = tt
 
--- and after a join that may have been
+-- after a join that may have been refused
 pub course_joined : {T E : Type 0} (ring : RingState) (budget items : ℕ) (address : List ℕ) (cache : CacheState) (r : Result T E) (old new : CourseState) → IsWithinBounds budget items
     → cache ≡ opening_cache budget items 0 → CourseHolds ring (opening_cache budget items 0) old → OnOk r (HasServerJoined address cache old new) → OnErr r (new ≡ old)
     → CourseHolds ring (opening_cache budget items 0) new
@@ -81,7 +81,7 @@ course_joined ring budget items address cache (Ok value) old new bounds opens h 
 course_joined ring budget items address cache (Err e) old new bounds opens h joined refused =
     subst (λ (c : CourseState). CourseHolds ring (opening_cache budget items 0) c) (sym refused) h
 
--- and after a restart that may have been
+-- after a restart that may have been refused
 pub course_restarted : {T E : Type 0} (ring : RingState) (budget items place : ℕ) (cache : CacheState) (r : Result T E) (old new : CourseState) → IsWithinBounds budget items
     → cache ≡ opening_cache budget items 0 → CourseHolds ring (opening_cache budget items 0) old → OnOk r (HasServerRestarted place cache old new) → OnErr r (new ≡ old)
     → CourseHolds ring (opening_cache budget items 0) new

@@ -1,11 +1,11 @@
--- The tags of commands that wait, one by one.
+-- The tags of pending commands, one by one.
 use Rattle.std.proofs.Common.{◌≡◌, ◌∙◌, ℕ, zero, suc, ◌+◌, ◌<◌, List, [], ◌∷◌, ◌++◌, length, map, drop, Option, Some, None, slice_get, refl, sym, ap, append_assoc, arith}
 use Rattle.std.specs.Option.{option_map}
 use Rattle.std.proofs.lemmas.Option.{none-some, same_Some}
 use Rattle.mc_link.specs.LinkState.{Waiting}
 use Rattle.mc_link.specs.declared.turns.Tag.{Tag}
 
--- the tags of what waits
+-- the tags of pending commands
 abbrev pub tags_in : List Waiting → List Tag
 tags_in waiting = map (λ (w : Waiting). w.1) waiting
 
@@ -24,7 +24,7 @@ none_here [] (suc n) is = refl
 none_here (w ∷ ws) zero is = absurd (none-some w.1 (sym is))
 none_here (w ∷ ws) (suc n) is = none_here ws n is
 
--- those so far and those to come are all from a number on
+-- those so far and the remaining ones are all from a number on
 pub one_more : (waiting : List Waiting) (first n : ℕ) (tags : List Tag) (tag : Tag) → tag_at waiting n ≡ Some tag → tags ++ drop n (tags_in waiting) ≡ drop first (tags_in waiting)
     → (tags ++ tag ∷ []) ++ drop (n + 1) (tags_in waiting) ≡ drop first (tags_in waiting)
 one_more waiting first n tags tag is h =
@@ -39,7 +39,7 @@ no_more waiting first n tags is h =
     let next : n + 1 ≡ suc n = omega arith in
     ap (λ (k : ℕ). tags ++ drop k (tags_in waiting)) next ∙ ap (λ (ts : List Tag). tags ++ ts) (sym (none_here waiting n is)) ∙ h
 
--- what is at a number, among the tags
+-- the element at a number, among the tags
 pub tag_of_waiting : (waiting : List Waiting) (n : ℕ) (tag : Tag) → tag_at waiting n ≡ Some tag → slice_get (tags_in waiting) n ≡ Some tag
 tag_of_waiting [] zero tag is = absurd (none-some tag is)
 tag_of_waiting [] (suc n) tag is = absurd (none-some tag is)

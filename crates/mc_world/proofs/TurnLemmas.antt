@@ -1,4 +1,4 @@
--- A server takes a request of a connection on which it serves a proxy: what it appends, and what that tells.
+-- A server takes a request of a connection on which it serves a proxy: what it appends, and what that shows.
 use Rattle.std.proofs.Common.{◌≡◌, ◌∙◌, ℕ, ◌+◌, ◌<◌, ◌≤◌, ◌^◌, Bool, true, false, List, [], ◌∷◌, ◌++◌, length, drop, Option, Some, slice_get, slice_set, refl, sym, ap, subst, arith}
 use Rattle.std.specs.Str.{bytes_eq}
 use Rattle.std.proofs.lemmas.List.{length-append}
@@ -55,7 +55,7 @@ same_test true b to from = sym (to refl)
 same_test false true to from = from refl
 same_test false false to from = refl
 
--- a turn of a server that serves a proxy: the appended bytes tell whether memory was refused
+-- a turn of a server that serves a proxy: the appended bytes show whether memory was refused
 pub entered : (number moment : ℕ) (tag : Tag) (old new : ServerState) (history : List Entry) (reply : List ℕ) (refused : Bool) → moment < 2 ^ 63 → ServesProxy number old
     → Steps number old new (IsTurn number moment Took) → reply ≡ drop (length (output_of (connection_at old number))) (output_of (connection_at new number))
     → refused ≡ bytes_eq reply (fault_line OutOfMemory)
@@ -85,17 +85,17 @@ entered number moment tag old new history reply refused below serves steps reply
       history = ap (λ (v : Bool). history ++ entry_of_tag tag moment v reply ∷ []) (refused_is ∙ line);
     }
 
--- of the living generation
+-- a turn of the living generation
 pub entered_at : (moment : ℕ) (tag : Tag) (old : SiteState) (server : ServerState) (history : List Entry) → EntersOn old.connection moment tag old.server server old.history history
     → Enters moment tag old (record old { server = server; history = history; ahead = old.ahead + 1 })
 entered_at moment tag old server history h = record { on = h; all_else = refl }
 
--- with its entry
+-- a turn of the living generation, with its entry
 pub entered_site : (moment : ℕ) (tag : Tag) (old new : SiteState) → (e : Enters moment tag old new)
     → new ≡ record old { server = new.server; history = old.history ++ entry_of_tag tag moment e.on.steps.step.1.served.0 e.on.reply ∷ []; ahead = old.ahead + 1 }
 entered_site moment tag old new e = e.all_else ∙ ap (λ (es : List Entry). record old { server = new.server; history = es; ahead = old.ahead + 1 }) e.on.history
 
--- of a lost one
+-- a turn of a lost generation
 first_of : (tags : List Tag) (tag : Tag) → slice_get tags 0 ≡ Some tag → tags ≡ tag ∷ drop 1 tags
 first_of [] tag is = absurd (none-some tag is)
 first_of (t ∷ ts) tag is = ap (λ (x : Tag). x ∷ ts) (same_Some t tag is)
@@ -121,6 +121,6 @@ pub late_site : (i moment : ℕ) (old new : SiteState) → (e : EntersLate i mom
 late_site i moment old new e =
     e.all_else ∙ ap (λ (es : List Entry). record old { server = new.server; history = es; lost = slice_set old.lost i (record e.way { untaken = e.tags }) }) e.on.history
 
--- what is said of the way at a place
+-- what holds of the way at an index
 pub said_of_way : (P : WayState → Type 0) (ways : List WayState) (i : ℕ) (own : WayState) → slice_get ways i ≡ Some own → P own → (way : WayState) → slice_get ways i ≡ Some way → P way
 said_of_way P ways i own at holds way also = subst P (same_Some own way (sym at ∙ also)) holds

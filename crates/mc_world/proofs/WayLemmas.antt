@@ -1,4 +1,4 @@
--- By which way the bytes and the turns of a generation go, and what is told of it.
+-- By which way the bytes and the turns of a generation go, and what holds of it.
 use Rattle.std.proofs.Common.{◌≡◌, ◌∙◌, ◌↔◌, ⊎_elim, ℕ, ◌^◌, ◌<◌, inl, inr, List, [], ◌∷◌, ◌++◌, length, Result, Ok, Err, IfOk, Some, slice_get, refl, sym, ap, subst}
 use Rattle.std.proofs.lemmas.List.{length-set}
 use Rattle.std.proofs.lemmas.Option.{same_Some}
@@ -21,7 +21,7 @@ use Rattle.mc_world.specs.declared.logs.Logged.TheVariants.{Happened, Restarted}
 abbrev pub course_of : PoolState → List ClientState → Log → CourseState
 course_of pool clients log = record { pool = pool; clients = clients; log = log }
 
--- what a step or an answer says, where each of its cases says another thing
+-- what a step or an answer promises, if each of its cases promises something else
 pub done_as : (step : Step) (A B C D : Type 0) → (A → B) → (C → D) → Does step A C → Does step B D
 done_as Done A B C D done rests told = done told
 done_as Nothing A B C D done rests told = rests told
@@ -52,7 +52,7 @@ pub lost_bytes : (server generation count : ℕ) (clients : List ClientState) (l
     → HappensTo (ToServer server generation count) (course_of old clients log) (course_of new clients log)
 lost_bytes server generation count clients log old new dead h = record { pool = inr (h.0, h.1, h.2, dead); clients = refl; log = refl }
 
--- so it is of a request that its server takes
+-- likewise for a request that its server takes
 pub living_turn : (server generation moment : ℕ) (clients : List ClientState) (log : Log) (old new : PoolState) → moment < 2 ^ 63 → Lives server generation old
     → ServerTakes server moment old new → HappensTo (ServerTurn server generation moment) (course_of old clients log) (course_of new clients log)
 living_turn server generation moment clients log old new fits lives h =
@@ -85,7 +85,7 @@ lost_and_restarted place cache old cut new pool clients clients' log log' step i
       log = log_is;
     }
 
--- or was down
+-- a server has restarted, whose link was down
 pub down_and_restarted : (place : ℕ) (cache : CacheState) (old cut new pool : PoolState) (clients clients' : List ClientState) (log log' : Log) (step : Step) → (step ≡ Done → ⊥)
     → Does step (LosesLink place old cut) (cut ≡ old) → ((step ≡ Done) ↔ IsUp place old) → ServerRestarts place cache cut new → pool ≡ new → clients' ≡ clients
     → log' ≡ log ++ Restarted place ∷ [] → HasServerRestarted place cache (course_of old clients log) (course_of pool clients' log')
@@ -98,7 +98,7 @@ down_and_restarted place cache old cut new pool clients clients' log log' Nothin
   log = log_is;
 }
 
--- as many servers are there after a loss
+-- the number of servers stays after a loss
 pub cut_as_many : (step : Step) (place : ℕ) (old new : PoolState) → Does step (LosesLink place old new) (new ≡ old) → length new.sites ≡ length old.sites
 cut_as_many Done place old new h = ap (λ (ss : List SiteState). length ss) h.there.sites ∙ length-set old.sites place h.there.now
 cut_as_many Nothing place old new same = ap (λ (p : PoolState). length p.sites) same

@@ -1,4 +1,4 @@
--- How much is left to do, where one thing has changed.
+-- How much is left to do after one thing has changed.
 use Rattle.std.proofs.Common.{◌≡◌, ℕ, zero, suc, ◌+◌, ◌*◌, ◌<◌, ◌≤◌, ◌==◌, Bool, true, false, if◌then◌else◌, nat_lt, List, [], ◌∷◌, length, drop, remove, Some, slice_get, slice_set, refl, ap, subst, arith}
 use Rattle.std.proofs.lemmas.List.{length-append}
 use Rattle.std.proofs.lemmas.Option.{same_Some}
@@ -17,7 +17,7 @@ use Rattle.mc_proxy.specs.ProxyState.{Sessions, session_in, updated}
 use Rattle.mc_world.specs.WorkLeft.{moves_of, work_left, work_of_link, work_of_session, work_of_sessions, work_of_site, work_of_sites, work_of_ways, work_on}
 use Rattle.mc_world.specs.WorldState.{PoolState, SiteState, WayState}
 
--- bytes are one move at most; where there are some they are one, and all of them moved leaves none
+-- bytes are one move at most; they are one if there are some, and none once all are moved
 pub moves_most : (xs : List ℕ) → moves_of xs ≤ 1
 moves_most [] = omega arith
 moves_most (x ∷ xs) = omega arith
@@ -45,7 +45,7 @@ sessions_updated ring number before after (s ∷ others) at =
       | false ↦ λ is. omega (arith, sessions_updated ring number before after others is)
     ]) at
 
--- what became of a command is noted: nothing less is left to do in the sessions
+-- an outcome is noted: as much is left to do in the sessions
 noted_at-length : (place atom : ℕ) (outcome : Outcome) (us : List Unanswered) → length (noted_at place atom outcome us) ≡ length us
 noted_at-length place atom outcome [] = refl
 noted_at-length zero atom outcome (u ∷ us) = refl
@@ -58,7 +58,7 @@ pub sessions_noted : (ring : RingState) (tag : Tag) (outcome : Outcome) (open_on
 sessions_noted ring tag outcome [] = refl
 sessions_noted ring tag outcome (s ∷ others) = grind (arith, session_noted, sessions_noted ring tag outcome others)
 
--- an answer that was put out
+-- an answer was emitted
 put_from : (ring : RingState) (session after : SessionState) (us : List Unanswered) → session.unanswered ≡ us → emitted_from session us ≡ Some after
     → work_of_session ring after < work_of_session ring session
 put_from ring session after [] is put = absurd cc
@@ -94,7 +94,7 @@ site_changed links sites place site now at inside =
     subst (λ (ls : List LinkState). work_of_sites ls (slice_set sites place now) + work_of_site (link_at links place) site ≡ work_of_sites links sites + work_of_site (link_at links place) now)
     (with_same links place) (sites_changed links sites place (link_at links place) site now at inside)
 
--- commands that are handed to links: four things more for each at most
+-- commands that are handed to links: at most four more things for each
 link_handed : (tag : Tag) (atom : Atom (List ℕ)) (link : LinkState) (site : SiteState) → work_of_link (handed_to tag atom link) site ≤ work_of_link link site + 4
 link_handed tag atom link site = grind (arith, length-append, moves_most, up_work)
 
@@ -111,7 +111,7 @@ pub sites_handed : (session request at : ℕ) (commands : List Routed) (links : 
 sites_handed session request at [] links sites = omega arith
 sites_handed session request at (c ∷ cs) links sites = grind (arith, one_handed, sites_handed session request (suc at) cs)
 
--- lost generations: one has ended; of one a command was taken
+-- lost generations: one has ended; a command of one was taken
 pub ways_removed : (ways : List WayState) (i : ℕ) (way : WayState) → slice_get ways i ≡ Some way → work_of_ways (remove ways i) < work_of_ways ways
 ways_removed [] i way at = absurd cc
 ways_removed (w ∷ ws) zero way at = omega arith

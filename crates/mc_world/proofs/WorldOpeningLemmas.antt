@@ -39,14 +39,14 @@ no_requests : requests_of [] ≡ []
 unfolding requests_of requests_within
 no_requests = refl
 
--- one session more
+-- one more session
 pub fresh-push : (from count : ℕ) → fresh_sessions from (suc count) ≡ fresh_sessions from count ++ (from + count, fresh_session) ∷ []
 fresh-push from zero = let same : from + 0 ≡ from = omega arith in ap (λ (n : ℕ). (n, fresh_session) ∷ []) (sym same)
 fresh-push from (suc count) =
     let same : suc from + count ≡ from + suc count = omega arith in
     ap (λ (more : Sessions). (from, fresh_session) ∷ more) (fresh-push (suc from) count ∙ ap (λ (n : ℕ). fresh_sessions (suc from) count ++ (n, fresh_session) ∷ []) same)
 
--- the number of the next one is not given
+-- the number of the next one is not in use
 pub session_above : (from count number : ℕ) → from + count ≤ number → session_in (fresh_sessions from count) number ≡ None
 session_above from zero number above = refl
 session_above from (suc count) number above =
@@ -67,7 +67,7 @@ link_opens n place =
     (λ none. subst (λ (l : LinkState). LinkHolds place [] (fresh_lane 0) l) (sym none) (λ up. absurd cc, λ _. record { nothing = refl; outcomes = refl }))
     (up_or_none n place)
 
--- one client more is admitted
+-- one more client is admitted
 pub one_admitted : (losses : Losses) (ring : RingState) (clients : ℕ) → with_fresh (opening_proxy losses ring clients) ≡ opening_proxy losses ring (suc clients)
 one_admitted losses ring clients =
     let zero_more : 0 + clients ≡ clients = omega arith in
@@ -96,7 +96,7 @@ same_site opening zero (suc place) site at = absurd (none-some site at)
 same_site opening (suc n) zero site at = same_Some (first_site opening) site at
 same_site opening (suc n) (suc place) site at = same_site opening n place site at
 
--- the site of a server that was just admitted to a pool, where nothing was sent to it yet
+-- the site of a server that was just admitted to a pool, and to which nothing was sent yet
 pub first_site_holds : (place : ℕ) (order : Order) (link : LinkState) (opening : CacheState) → IsGoodCache opening → commands_to place order ≡ [] → AreReplied place order []
     → SiteHolds place order (fresh_lane (length order)) link opening (first_site opening)
 first_site_holds place order link opening good none replied = record {
@@ -150,11 +150,11 @@ fresh_or_none from (suc count) number =
       | false ↦ again
     ]
 
--- nothing is put out
+-- nothing is emitted
 pub nothing_put : (count number : ℕ) → output_of (session_in (fresh_sessions 0 count) number) ≡ []
 nothing_put count number = ⊎_elim (λ none. ap output_of none) (λ fresh. ap output_of fresh) (fresh_or_none 0 count number)
 
--- and nothing was answered
+-- nothing was answered
 nothing_answered : (count number : ℕ) (session : SessionState) → session_in (fresh_sessions 0 count) number ≡ Some session → answered session ≡ 0
 nothing_answered count number session at =
     ⊎_elim
@@ -162,7 +162,7 @@ nothing_answered count number session at =
     (λ fresh. let same : fresh_session ≡ session = same_Some fresh_session session (sym fresh ∙ at) in ap answered (sym same))
     (fresh_or_none 0 count number)
 
--- its links are up, and its histories empty
+-- the links of a pool that was just opened are up, and its histories empty
 up_inside : (n place : ℕ) → place < n → (link_at (replicate n (up_link 1)) place).up ≡ true
 up_inside zero place inside = absurd (omega (arith, inside))
 up_inside (suc n) zero inside = refl
@@ -193,7 +193,7 @@ fresh_pool losses ring opening is_ring = record {
   none_lost = none_lost opening (length ring.servers);
 }
 
--- where nothing was done, the log leaves the pool so
+-- an empty log leaves the pool so
 pub log_opens : (losses : Losses) (ring : RingState) (opening : CacheState) (clients : ℕ) → IsRing ring → LogHolds ring [] (λ _. []) [] (opening_pool losses opening ring clients)
 log_opens losses ring opening clients is_ring =
     let begun = log_begins ring (opening_pool losses opening ring 0) (fresh_pool losses ring opening is_ring) in
@@ -218,7 +218,7 @@ nobody_there zero client = refl
 nobody_there (suc n) zero = refl
 nobody_there (suc n) (suc client) = nobody_there n client
 
--- its sites and links are of the first generation
+-- the sites and links of a world that was just opened are of the first generation
 opening_generations : (opening : CacheState) (n place : ℕ) (site : SiteState) → slice_get (replicate n (first_site opening)) place ≡ Some site
     → IsOfLink (link_at (replicate n (up_link 1)) place) site
 opening_generations opening zero zero site at = absurd (none-some site at)

@@ -34,14 +34,14 @@ up_when_taken place tag log = is_up place (before (takes tag.session) tag.reques
 abbrev pub down_when_taken : ℕ → Tag → Log → Type 0
 down_when_taken place tag log = is_up place (before (takes tag.session) tag.request log) ≡ false
 
--- a link was lost where a request had been taken and was not answered
+-- a link was lost while a request had been taken and was not answered
 abbrev pub WasLost : ℕ → Tag → Log → Type 0
 WasLost place tag log =
     (loss : ℕ) × (loss < number_of (loses place) log)
     × WasTaken tag (before (loses place) loss log) × NotAnswered tag (before (loses place) loss log)
 
--- what a log tells of a command that is lost: it was never sent, since its link was down when it was taken, or its link was lost
--- before it was answered
+-- what a log shows of a command that is lost: it was never sent, since its link was down when it was taken, or its link was lost before it
+-- was answered
 abbrev pub IsToldLost : ℕ → Tag → List Entry → Log → Type 0
 IsToldLost place tag history log = (down_when_taken place tag log × HasNone history tag) ⊎ (up_when_taken place tag log × WasLost place tag log)
 
@@ -50,47 +50,48 @@ abbrev pub answers_by : Losses → Order → List ℕ
 answers_by losses [] = []
 answers_by losses (e ∷ es) = answer_by losses e.what e.outcomes ++ answers_by losses es
 
--- What a run gives account of, by its choice for lost commands, and by an order in which the requests were taken with what became of each
--- command: the clients' texts, what was put out to them, the servers' histories, all by number, and the log.
+-- The account of a run, by its choice for lost commands, and by an order in which the requests were taken, with the outcome of each command.
+-- The account is over the clients' texts, the bytes that were emitted to them, the servers' histories, all by number, and the log.
 pub record Accounts (losses : Losses) (ring : RingState) (opening : CacheState) (order : Order) (texts outs : ℕ → List ℕ) (histories : ℕ → List Entry) (log : Log) : Type 0 where
-  -- each client's requests were taken in order, by the turns of the log in theirs, and routed by the ring of then; each of their commands
-  -- has its outcome
+  -- each client's requests were taken in order, by the turns of the log in theirs, and routed by the ring of that moment; each of their
+  -- commands has its outcome
   pub asked : (client : ℕ) → (untaken : List Taken) × (taken_of client order ++ untaken ≡ requests_of (texts client))
   pub turns : map (λ (e : Asked). e.session) order ≡ turns_of log
   pub numbered : (client : ℕ) → AreInOrder (entries_of client order)
   pub rings : (client request : ℕ) (e : Asked) → asked_at order client request ≡ Some e → IsRingAfter ring (before (takes client) request log) e.ring
   pub sized : All IsSized order
-  -- what a server took in each of its lives is legal, and no command has two entries in all histories
+  -- the entries of a server in each of its lives are legal, and no command has two entries in all histories
   pub legal : (place life : ℕ) → IsLegal order place opening (in_life place life log (histories place))
   pub once : (r s j k : ℕ) (d e : Entry) → slice_get (histories r) j ≡ Some d → slice_get (histories s) k ≡ Some e → tag_in d ≡ tag_in e
       → (r ≡ s) × (j ≡ k)
   -- a reply is that of its server's history
   pub replied : (tag : Tag) (place : ℕ) (atom : Atom (List ℕ)) (reply : AReply (List ℕ)) → command_at order tag ≡ Some (to_place place atom)
       → outcome_at order tag ≡ Some (Reply reply) → HasReply (histories place) tag (spelling_of atom reply)
-  -- what is lost was never sent, or its link was lost before it was answered
+  -- a lost command was never sent, or its link was lost before it was answered
   pub lost : (tag : Tag) (place : ℕ) (atom : Atom (List ℕ)) → command_at order tag ≡ Some (to_place place atom) → outcome_at order tag ≡ Some Lost
       → IsToldLost place tag (histories place) log
-  -- in a history the commands of one client that were replied are in its order
+  -- in a history the commands of one client that were answered are in its order
   pub ordered : (place j k : ℕ) (d e : Entry) (r q : AReply (List ℕ)) → slice_get (histories place) j ≡ Some d → slice_get (histories place) k ≡ Some e → j < k
       → d.client ≡ e.client → outcome_at order (tag_in d) ≡ Some (Reply r) → outcome_at order (tag_in e) ≡ Some (Reply q) → IsBefore (tag_in d) (tag_in e)
-  -- where its link was never lost, a server took the first of the commands to it, in the order in which the proxy took the requests
+  -- if its link was never lost, a server took the first of the commands to it, in the order in which the proxy took the requests
   pub followed : (place : ℕ) → number_of (loses place) log ≡ 0 → (untaken : List Tag) × (map tag_in (histories place) ++ untaken ≡ tags_of (commands_to place order))
-  -- what was put out to a client is the answers to its first requests, one for each put, and each was taken before it was answered
+  -- the bytes emitted to a client are the answers to its first requests, one for each put, and each was taken before it was answered
   pub answered : (client : ℕ) → list_all is_complete (take (number_of (puts client) log) (entries_of client order)) ≡ true
   pub put : (client : ℕ) → outs client ≡ answers_by losses (take (number_of (puts client) log) (entries_of client order))
   pub after : (client request : ℕ) → request < number_of (puts client) log → request < number_of (takes client) (before (puts client) request log)
-  -- a history has one entry for each turn of its server, at its moment; its request was taken before, and answered after where it was replied
+  -- a history has one entry for each turn of its server, at its moment; its request was taken before, and answered after if its command was
+  -- answered
   pub moments : (place : ℕ) → map (λ (e : Entry). e.moment) (histories place) ≡ moments_of place log
   pub placed : (place k : ℕ) (e : Entry) → slice_get (histories place) k ≡ Some e
       → WasTaken (tag_in e) (before (serves place) k log)
       × ((reply : AReply (List ℕ)) → outcome_at order (tag_in e) ≡ Some (Reply reply) → NotAnswered (tag_in e) (before (serves place) k log))
 
--- the account: there is such an order
+-- the account: such an order exists
 abbrev pub Account : Losses → RingState → CacheState → (ℕ → List ℕ) → (ℕ → List ℕ) → (ℕ → List Entry) → Log → Type 0
 Account losses ring opening texts outs histories log = (order : Order) × Accounts losses ring opening order texts outs histories log
 
--- The clauses of the account that speak of no place of the log: each client's requests were taken in order, each command has its outcome,
--- what each server took since its life began is legal, all that it ever took are commands to it, and no command has two entries in all
+-- The clauses of the account that name no place of the log. Each client's requests were taken in order, and each command has its outcome.
+-- The entries of each server since its life began are legal, and all its entries are of commands to it. No command has two entries in all
 -- histories.
 pub record AccountsForCommands (opening : CacheState) (order : Order) (texts : ℕ → List ℕ) (histories : ℕ → List Entry) (begun : ℕ → ℕ) : Type 0 where
   pub asked : (client : ℕ) → (untaken : List Taken) × (taken_of client order ++ untaken ≡ requests_of (texts client))

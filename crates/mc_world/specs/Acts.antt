@@ -13,7 +13,8 @@ use Rattle.mc_world.specs.declared.acts.Act.TheVariants.{PutAnswer, ReachProxy, 
 use Rattle.mc_world.specs.declared.events.Event.{Event}
 use Rattle.mc_world.specs.declared.events.Event.TheVariants.{ClientTakes, Emit, ProxyTurn, ReplyTurn, ServerSeesEnd, ServerTurn, ToProxy, ToServer}
 
--- the living generation at a place, the first that was lost there, and the bytes on their way back: 0, 0 and none where there is nothing
+-- the living generation at a place, the first lost one there, and the bytes on their way to the proxy: 0, 0 and none if the place has
+-- none
 abbrev pub generation_of : Option SiteState → ℕ
 generation_of None = 0
 generation_of (Some site) = site.generation
@@ -30,7 +31,7 @@ abbrev pub coming_of : Option SiteState → List ℕ
 coming_of None = []
 coming_of (Some site) = output_of (connection_at site.server site.connection)
 
--- the event of an act: it moves all bytes, and is of the living generation, or of the first that was lost
+-- the event of an act: it moves all bytes, and is of the living generation, or of the first lost one
 abbrev pub event_of : Act → ℕ → PoolState → Event (List ℕ)
 event_of (SeeEnd place) moment pool = ServerSeesEnd place (lost_of (slice_get pool.sites place))
 event_of (TakeRequest client) moment pool = ProxyTurn client
@@ -45,7 +46,7 @@ event_of (TakeBytes client) moment pool = ClientTakes client (length (output_at 
 abbrev pub IsIdle : ℕ → PoolState → Act → Type 0
 IsIdle moment pool act = Applies (event_of act moment pool) pool → ⊥
 
--- none of these acts applies, of any client; of any server
+-- none of these acts applies, for any client; for any server
 abbrev pub NoClient : ℕ → (ℕ → Act) → CourseState → Type 0
 NoClient moment act c = (client : ℕ) → client < length c.clients → IsIdle moment c.pool (act client)
 
@@ -63,7 +64,7 @@ pub record IsRested (moment : ℕ) (c : CourseState) : Type 0 where
   pub answers : NoClient moment PutAnswer c
   pub taken : NoClient moment TakeBytes c
 
--- a world after some events of a drain: it is opened as it was
+-- a world after some events of a drain: its opening is as it was
 pub record HasDrained (moment : ℕ) (old new : WorldState) : Type 0 where
   pub drains : Drains moment old.course new.course
   pub losses : new.losses ≡ old.losses
@@ -71,12 +72,12 @@ pub record HasDrained (moment : ℕ) (old new : WorldState) : Type 0 where
   pub budget : new.budget ≡ old.budget
   pub items : new.items ≡ old.items
 
--- where a part of a drain did something less is left to do, and else nothing has changed
+-- if a part of a drain did something, less is left to do; otherwise nothing has changed
 abbrev pub GoesOn : ℕ → Bool → WorldState → WorldState → Type 0
 GoesOn moment true old new = HasDrained moment old new × (work_left new.course.pool < work_left old.course.pool)
 GoesOn moment false old new = new ≡ old
 
--- a part of a drain is over: where it did nothing, this is so
+-- a part of a drain is over: if it did nothing, this holds
 pub record IsOver (moment : ℕ) (Idle : CourseState → Type 0) (did : Bool) (old new : WorldState) : Type 0 where
   pub goes : GoesOn moment did old new
   pub idle : did ≡ false → Idle old.course

@@ -1,4 +1,4 @@
--- When an event applies to a pool: where it does not, nothing happens.
+-- When an event applies to a pool: if it does not, nothing happens.
 use Rattle.std.specs.Prelude.{ℕ, ◌≡◌, ◌≢◌, ◌-◌, ◌^◌, ◌<◌, ◌==◌, true, List, length, Option, None, Some, position, slice_get}
 use Rattle.mc_link.specs.LinkState.{can_come_back}
 use Rattle.mc_link.specs.Turns.{HasReply}
@@ -10,7 +10,7 @@ use Rattle.mc_proxy.specs.ProxyState.{output_of as output_at, session_at}
 use Rattle.mc_proxy.specs.Turns.{CanTurn, HasAnswer}
 use Rattle.mc_world.specs.WorldState.{PoolState, SiteState, WayState}
 
--- bytes can be moved: there are some, and some are asked for
+-- bytes can be moved: some exist, and some are asked for
 abbrev pub CanMove : ℕ → List ℕ → Type 0
 CanMove count bytes = (0 < count) × (0 < length bytes)
 
@@ -18,19 +18,19 @@ CanMove count bytes = (0 < count) × (0 < length bytes)
 abbrev pub IsThere : ℕ → PoolState → Type 0
 IsThere client pool = session_at pool.proxy client ≢ None
 
--- a client sends bytes: it has not gone, and there is a byte
+-- a client sends bytes: it has not gone, and sends at least one
 abbrev pub CanHear : ℕ → List ℕ → PoolState → Type 0
 CanHear client piece pool = IsThere client pool × (0 < length piece)
 
--- the proxy takes a request of a client: one has come whole, and no mark is reached by it
+-- the proxy takes a request of a client: a whole one has arrived, and no high-water mark is reached
 abbrev pub CanTakeRequest : ℕ → PoolState → Type 0
 CanTakeRequest client pool = CanTurn client pool.proxy
 
--- an answer is put out to a client: of each command of its oldest unanswered request it is known what became of it
+-- an answer is emitted to a client: the outcome of each command of its oldest unanswered request is known
 abbrev pub CanPutAnswer : ℕ → PoolState → Type 0
 CanPutAnswer client pool = HasAnswer client pool.proxy
 
--- a client takes bytes of those that were put out to it
+-- a client takes bytes of those that were emitted to it
 abbrev pub CanTakeBytes : ℕ → ℕ → PoolState → Type 0
 CanTakeBytes client count pool = CanMove count (output_at (session_at pool.proxy client))
 
@@ -42,21 +42,21 @@ IsUp place pool = (link_at pool.proxy.links place).up ≡ true
 abbrev pub CanReachServer : ℕ → ℕ → PoolState → Type 0
 CanReachServer place count pool = IsUp place pool × CanMove count (link_at pool.proxy.links place).output
 
--- a server takes a request of the living generation: its link is up, and one has come whole
+-- a server takes a request of the living generation: its link is up, and a whole request has arrived
 pub record CanServe (place : ℕ) (pool : PoolState) : Type 0 where
   pub site : SiteState
   pub at : slice_get pool.sites place ≡ Some site
   pub up : IsUp place pool
   pub waits : 0 < length (waiting_of (connection_at site.server site.connection))
 
--- bytes come back to the proxy: the link is up, and the server has some for it
+-- bytes arrive at the proxy: the link is up, and the server has some for it
 pub record CanReachProxy (place count : ℕ) (pool : PoolState) : Type 0 where
   pub site : SiteState
   pub at : slice_get pool.sites place ≡ Some site
   pub up : IsUp place pool
   pub moves : CanMove count (output_of (connection_at site.server site.connection))
 
--- the proxy takes a reply: the link is up, and a reply to the oldest command that waits has come whole
+-- the proxy takes a reply: the link is up, and a whole reply to the oldest pending command has arrived
 abbrev pub CanTakeReply : ℕ → PoolState → Type 0
 CanTakeReply place pool = IsUp place pool × HasReply (link_at pool.proxy.links place)
 
@@ -64,14 +64,14 @@ CanTakeReply place pool = IsUp place pool × HasReply (link_at pool.proxy.links 
 abbrev pub CanAdmit : ServerState → Type 0
 CanAdmit server = (length server.connections < MAX_CONNECTIONS) × (server.admitted ≢ 2 ^ 64 - 1)
 
--- a link is back: it is down, a generation is left, and its server can admit a connection
+-- a link comes up again: it is down, a generation is left, and its server can admit a connection
 pub record CanReturn (place : ℕ) (pool : PoolState) : Type 0 where
   pub site : SiteState
   pub at : slice_get pool.sites place ≡ Some site
   pub can : can_come_back (link_at pool.proxy.links place) ≡ true
   pub admits : CanAdmit site.server
 
--- where a lost generation is among those that are not ended: the first of its number
+-- the index of a lost generation among those that are not ended: the first of its number
 abbrev pub way_of : ℕ → List WayState → Option ℕ
 way_of generation ways = position (λ way. way.generation == generation) ways
 
@@ -89,7 +89,7 @@ pub record CanReachLate (place generation count : ℕ) (pool : PoolState) : Type
   pub there : HasLost place generation pool
   pub moves : CanMove count there.way.going
 
--- its server takes a request of it: one has come whole
+-- its server takes a request of it: a whole one has arrived
 pub record CanServeLate (place generation : ℕ) (pool : PoolState) : Type 0 where
   pub there : HasLost place generation pool
   pub waits : 0 < length (waiting_of (connection_at there.site.server there.way.connection))

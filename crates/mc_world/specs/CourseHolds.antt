@@ -1,4 +1,4 @@
--- Where a world is, after all that was done.
+-- The invariant of a world, after all that was done.
 use Rattle.std.specs.Prelude.{ℕ, ◌≡◌, ◌<◌, ◌≤◌, true, List, length, Some, slice_get}
 use Rattle.mc_ring.specs.Rings.{RingState}
 use Rattle.mc_link.specs.LinkState.{LinkState}
@@ -13,14 +13,14 @@ use Rattle.mc_world.specs.Pools.{PoolHolds}
 use Rattle.mc_world.specs.WorldState.{IsRising, PoolState, SiteState, WayState, begun_of, histories_of}
 use Rattle.mc_world.specs.Worlds.{CourseState, WorldState, put_out_of, taken_by, text_of}
 
--- A site is of the generation of its link. Those that were lost rise up to it, and are below it while it lives.
+-- A site is of the generation of its link. Its lost generations rise up to that, and are below it while it lives.
 pub record IsOfLink (link : LinkState) (site : SiteState) : Type 0 where
   pub same : site.generation ≡ link.generation
   pub rising : IsRising site.lost
   pub most : (i : ℕ) (way : WayState) → slice_get site.lost i ≡ Some way → way.generation ≤ site.generation
   pub below : link.up ≡ true → (i : ℕ) (way : WayState) → slice_get site.lost i ≡ Some way → way.generation < site.generation
 
--- so it is at each site
+-- each site is of the generation of its link
 abbrev pub HaveOneGeneration : PoolState → Type 0
 HaveOneGeneration pool = (place : ℕ) (site : SiteState) → slice_get pool.sites place ≡ Some site → IsOfLink (link_at pool.proxy.links place) site
 
@@ -28,15 +28,16 @@ HaveOneGeneration pool = (place : ℕ) (site : SiteState) → slice_get pool.sit
 abbrev pub HaveOneConnection : Log → PoolState → Type 0
 HaveOneConnection log pool = (place : ℕ) (site : SiteState) → slice_get pool.sites place ≡ Some site → number_of (loses place) log ≡ 0 → site.server.admitted ≡ 1
 
--- The life of each server began at its last restart; a server whose link was never lost is in its first life; and what a server took
--- in each life that has ended is legal.
+-- The life of each server began at its last restart. A server whose link was never lost is in its first life. A server's entries in
+-- each life that has ended are legal.
 pub record LivesHold (opening : CacheState) (order : Order) (log : Log) (sites : List SiteState) : Type 0 where
   pub begun : (place : ℕ) → begun_of sites place ≡ taken_before place (number_of (restarts place) log) log
   pub first : (place : ℕ) → number_of (loses place) log ≡ 0 → begun_of sites place ≡ 0
   pub ended : (place life : ℕ) → life < number_of (restarts place) log → IsLegal order place opening (in_life place life log (histories_of sites place))
 
--- A course is where its proxy took requests in some order, and that passed over its links: so its pool is there, and its log tells
--- of it. Each client has a session of its number, and each site is of the generation of its link and of the life that the log has.
+-- The invariant of a course: in some order the proxy took requests, and commands passed over its links, and its pool and its log
+-- agree with both. Each client has a session of its number, and each site is of the generation of its link and of the life that the
+-- log has.
 pub record CourseHolds (ring : RingState) (opening : CacheState) (c : CourseState) : Type 0 where
   pub order : Order
   pub lanes : ℕ → Lane

@@ -12,7 +12,7 @@ use Rattle.mc_world.specs.declared.events.Event.{Event}
 use Rattle.mc_world.specs.declared.events.Event.TheVariants.{ClientBytes, ClientGone, ClientTakes, Emit, LinkBack, LinkLost, ProxyTurn, ReplyTurn, ServerSeesEnd, ServerTurn, ToProxy, ToServer}
 use Rattle.mc_world.specs.declared.logs.Logged.TheVariants.{Happened}
 
--- bytes of a generation arrive at its server: of the living one from its link, of one that does not live the first of those on their way
+-- bytes of a generation arrive at its server: of the living one from its link, of a lost one the first of those on their way
 abbrev pub BytesArrive : ℕ → ℕ → ℕ → PoolState → PoolState → Type 0
 BytesArrive server generation count old new =
     ((h : ReachesServer server count old new) × (h.there.site.generation ≡ generation))
@@ -43,7 +43,7 @@ Happens (LinkLost server) old new = LosesLink server old new
 Happens (LinkBack server) old new = LinkReturns server old new
 Happens (ServerSeesEnd server generation) old new = (i : ℕ) × (h : EndSeen server i old new) × (h.ends.way.generation ≡ generation)
 
--- and to the clients: one has sent more bytes; one took the first bytes that were put out to it, or, when it goes, all
+-- what an event does to the clients: one has sent more bytes; one took the first bytes that were emitted to it, or, when it goes, all
 abbrev pub clients_after : Event (List ℕ) → PoolState → List ClientState → List ClientState
 clients_after (ClientBytes client bytes) pool clients =
     with_client client (record (client_at clients client) { text = (client_at clients client).text ++ bytes }) clients
@@ -53,7 +53,7 @@ clients_after (ClientGone client) pool clients =
     with_client client (record (client_at clients client) { taken = (client_at clients client).taken ++ output_of (session_at pool.proxy client) }) clients
 clients_after other pool clients = clients
 
--- an event happens to a course, which the log does not have yet
+-- an event happens to a course, whose log does not have it yet
 pub record HappensTo (event : Event (List ℕ)) (old new : CourseState) : Type 0 where
   pub pool : Happens event old.pool new.pool
   pub clients : new.clients ≡ clients_after event old.pool old.clients
@@ -65,7 +65,7 @@ pub record IsDone (event : Event (List ℕ)) (old new : CourseState) : Type 0 wh
   pub clients : new.clients ≡ clients_after event old.pool old.clients
   pub log : new.log ≡ old.log ++ Happened (bare event) ∷ []
 
--- one of two ways, by whether a generation lives: its living way, or that of a lost generation
+-- one of two cases, by whether a generation lives
 abbrev pub ByWay : ℕ → ℕ → PoolState → Type 0 → Type 0 → Type 0
 ByWay server generation pool living late = (Lives server generation pool × living) ⊎ ((Lives server generation pool → ⊥) × late)
 
@@ -84,7 +84,7 @@ Applies (LinkLost server) pool = IsUp server pool
 Applies (LinkBack server) pool = CanReturn server pool
 Applies (ServerSeesEnd server generation) pool = HasLost server generation pool
 
--- What the calls of a course rest on: its servers serve the proxy, and each client whose session is open is there.
+-- The premises of the calls of a course: its servers serve the proxy, and each client with an open session exists.
 pub record CourseServes (c : CourseState) : Type 0 where
   pub pool : PoolServes c.pool
   pub clients : (client : ℕ) (session : SessionState) → session_at c.pool.proxy client ≡ Some session → client < length c.clients

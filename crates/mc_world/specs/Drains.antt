@@ -7,12 +7,13 @@ use Rattle.mc_world.specs.Worlds.{CourseState}
 use Rattle.mc_world.specs.declared.events.Event.{Event}
 use Rattle.mc_world.specs.declared.events.Event.TheVariants.{ServerTurn}
 
--- an event that a drain at a moment may do: one of the pool itself, where a server takes its requests at that moment
+-- an event that a drain at a moment may do: one of the pool itself, in which a server takes its requests at that
+-- moment
 abbrev pub is_of_drain : ℕ → Event (List ℕ) → Bool
 is_of_drain moment (ServerTurn server generation at) = at == moment
 is_of_drain moment other = is_inner other
 
--- events are done, one after another
+-- events are done in sequence
 abbrev pub AreDone : List (Event (List ℕ)) → CourseState → CourseState → Type 0
 AreDone [] old new = new ≡ old
 AreDone (event ∷ events) old new = (next : CourseState) × IsDone event old next × AreDone events next new

@@ -1,4 +1,4 @@
--- What happens to a server and its ways, as its calls say it.
+-- What happens to a server and its ways, as the contracts of its calls say.
 use Rattle.std.specs.Prelude.{ℕ, ◌≡◌, ◌+◌, ◌-◌, Bool, List, [], ◌∷◌, ◌++◌, take, drop, None, Some, slice_get, slice_set, remove}
 use Rattle.mc_link.specs.declared.turns.Tag.{Tag}
 use Rattle.mc_server.specs.ServerState.{ServerState, closed, connection_at, sent_by, with_fresh}
@@ -9,7 +9,7 @@ use Rattle.mc_world.specs.declared.errors.Step.{Step}
 use Rattle.mc_world.specs.declared.errors.Step.TheVariants.{Done, Nothing}
 use Rattle.mc_history.specs.declared.entries.Entry.{Entry}
 
--- what a step says, by whether it was done
+-- what a step promises, by whether it was done
 abbrev pub Does : Step → Type 0 → Type 0 → Type 0
 Does Done happens rests = happens
 Does Nothing happens rests = rests
@@ -38,14 +38,15 @@ entry_of_tag tag moment refused reply = record {
   reply = reply;
 }
 
--- the server takes a request of a connection, which is the command of this tag: the history has it with the bytes that the server appended
+-- the server takes a request of a connection, which is the command of this tag: the history records it with the bytes that the server
+-- appended
 pub record EntersOn (number moment : ℕ) (tag : Tag) (old new : ServerState) (before after : List Entry) : Type 0 where
   pub steps : Steps number old new (IsTurn number moment Took)
   pub reply : List ℕ
   pub appended : steps.after.output ≡ steps.before.output ++ reply
   pub history : after ≡ before ++ entry_of_tag tag moment steps.step.1.served.0 reply ∷ []
 
--- it takes one of the living generation
+-- the server takes a request of the living generation
 pub record Enters (moment : ℕ) (tag : Tag) (old new : SiteState) : Type 0 where
   pub on : EntersOn old.connection moment tag old.server new.server old.history new.history
   pub all_else : new ≡ record old { server = new.server; history = new.history; ahead = old.ahead + 1 }
@@ -57,7 +58,7 @@ pub record ArrivesLate (i count : ℕ) (old new : SiteState) : Type 0 where
   pub steps : Steps way.connection old.server new.server (Feeds (take count way.going))
   pub all_else : new ≡ record old { server = new.server; lost = slice_set old.lost i (record way { going = drop count way.going }) }
 
--- the server takes a request of a lost generation: that of the first command that was not taken
+-- the server takes a request of a lost generation: that of its first command that was not taken
 pub record EntersLate (i moment : ℕ) (old new : SiteState) : Type 0 where
   pub way : WayState
   pub tag : Tag
@@ -75,7 +76,7 @@ pub record Ends (i : ℕ) (old new : SiteState) : Type 0 where
   pub not_open : connection_at new.server way.connection ≡ None
   pub all_else : new ≡ record old { server = new.server; lost = remove old.lost i }
 
--- the link is back, as this generation: the server has admitted a connection for it
+-- the link comes up, as this generation: the server has admitted a connection for it
 pub record ComesBack (generation : ℕ) (old new : SiteState) : Type 0 where
   pub closed : connection_at old.server old.server.admitted ≡ None
   pub all_else : new ≡ record old { server = with_fresh old.server; generation = generation; connection = old.server.admitted; ahead = 0 }

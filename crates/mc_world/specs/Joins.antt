@@ -13,7 +13,7 @@ pub record ServerJoins (address : List ℕ) (opening : CacheState) (old new : Po
   pub is_ring : IsRing new.proxy.ring
   pub sites : new.sites ≡ old.sites ++ first_site opening ∷ []
 
--- it joins in the course of a world: the log has it, and no client is another
+-- a server joins in the course of a world: the log has it, and the clients stay
 pub record HasServerJoined (address : List ℕ) (opening : CacheState) (old new : CourseState) : Type 0 where
   pub pool : ServerJoins address opening old.pool new.pool
   pub clients : new.clients ≡ old.clients

@@ -1,4 +1,4 @@
--- Where a log leaves a pool, and the order in which its proxy took requests.
+-- The state in which a log leaves a pool, and the order in which its proxy took requests.
 use Rattle.std.specs.Prelude.{ℕ, ◌≡◌, ◌<◌, ◌≤◌, ◌⊎◌, true, List, [], length, map, None, Some, slice_get, All}
 use Rattle.mc_request.specs.declared.parts.Atom.{Atom}
 use Rattle.mc_ring.specs.Rings.{IsRing, RingState}
@@ -17,18 +17,19 @@ use Rattle.mc_world.specs.Accounts.{IsToldLost, NotAnswered, WasTaken, up_when_t
 use Rattle.mc_world.specs.Logs.{IsRingAfter, Log, before, is_up, moments_of, number_of, puts, serves, takes, turns_of}
 use Rattle.mc_world.specs.WorldState.{PoolState, SiteState, WayState, histories_of}
 
--- a command that became this of it: one that is awaited was sent on a link that was up; of one that is lost the log tells why
+-- the outcome of a command, as a log shows it: an awaited command was sent on a link that was up; for a lost one the log shows the
+-- cause
 abbrev pub IsTold : ℕ → Tag → List Entry → Log → Outcome → Type 0
 IsTold place tag history log Awaited = up_when_taken place tag log
 IsTold place tag history log (Reply reply) = Unit {0}
 IsTold place tag history log Lost = IsToldLost place tag history log
 
--- an entry of a history was made after its request was taken, and before that was answered, where its command is not lost
+-- an entry of a history was made after its request was taken, and before that was answered, unless its command is lost
 pub record IsPlaced (order : Order) (earlier : Log) (e : Entry) : Type 0 where
   pub taken : WasTaken (tag_in e) earlier
   pub answered : (outcome_at order (tag_in e) ≡ Some Lost) ⊎ NotAnswered (tag_in e) earlier
 
--- of two entries of one client the first was asked before the second, where neither is lost
+-- of two entries of one client the first was asked before the second, unless one of them is lost
 abbrev pub AreOrdered : Order → Entry → Entry → Type 0
 AreOrdered order d e =
     d.client ≡ e.client → (outcome_at order (tag_in d) ≡ Some Lost) ⊎ ((outcome_at order (tag_in e) ≡ Some Lost) ⊎ IsBefore (tag_in d) (tag_in e))
@@ -38,8 +39,8 @@ pub record IsUntaken (place : ℕ) (order : Order) (log : Log) (tag : Tag) : Typ
   pub lost : outcome_at order tag ≡ Some Lost
   pub sent : up_when_taken place tag log
 
--- The ring of a log, with a link and a site for each of its servers. The links are as the log has them; of a place where none is,
--- nothing is logged.
+-- The ring of a log, with a link and a site for each of its servers. The links are as the log has them; nothing is logged of a
+-- place without a link.
 pub record ServersHold (opening : RingState) (log : Log) (pool : PoolState) : Type 0 where
   pub ring : IsRingAfter opening log pool.proxy.ring
   pub is_ring : IsRing pool.proxy.ring
@@ -48,34 +49,37 @@ pub record ServersHold (opening : RingState) (log : Log) (pool : PoolState) : Ty
   pub links : (place : ℕ) → place < length pool.sites → is_up place log ≡ (link_at pool.proxy.links place).up
   pub no_links : (place : ℕ) → length pool.sites ≤ place → is_up place log ≡ true
 
--- Requests that were taken: by the turns of the log, in their order, each routed by the ring of then, to one of so many places.
+-- Requests that were taken: by the turns of the log, in their order, each routed by the ring of its moment, to one of this number
+-- of places.
 pub record RequestsHold (opening : RingState) (places : ℕ) (order : Order) (log : Log) : Type 0 where
   pub turns : map (λ (e : Asked). e.session) order ≡ turns_of log
   pub rings : (client request : ℕ) (e : Asked) → asked_at order client request ≡ Some e → IsRingAfter opening (before (takes client) request log) e.ring
   pub inside : All (IsRoutedWithin places) order
 
--- What was put out to each client is the answers to its first requests, one for each put, and each was taken before; so many are
--- answered of an open session.
+-- The bytes emitted to each client are the answers to its first requests, one for each put, and each request was taken before. An
+-- open session counts the same number of answers.
 pub record AnswersHold (order : Order) (outs : ℕ → List ℕ) (log : Log) (proxy : ProxyState) : Type 0 where
   pub put : (client : ℕ) → AreAnswers client order (number_of (puts client) log) (outs client) []
   pub after : (client request : ℕ) → request < number_of (puts client) log → request < number_of (takes client) (before (puts client) request log)
   pub unanswered : (client : ℕ) (session : SessionState) → session_at proxy client ≡ Some session → answered session ≡ number_of (puts client) log
 
--- Histories: an entry for each turn of the server, at its moment; each was made while its request was taken and not answered, and
--- those of one client in its order.
+-- Histories have an entry for each turn of the server, at its moment. Unless its command is lost, each entry was made after its
+-- request was taken and before it was answered, and those of one client are in its order.
 pub record HistoriesHold (order : Order) (log : Log) (histories : ℕ → List Entry) : Type 0 where
   pub moments : (place : ℕ) → map (λ (e : Entry). e.moment) (histories place) ≡ moments_of place log
   pub placed : (place k : ℕ) (e : Entry) → slice_get (histories place) k ≡ Some e → IsPlaced order (before (serves place) k log) e
   pub ordered : (place j k : ℕ) (d e : Entry) → slice_get (histories place) j ≡ Some d → slice_get (histories place) k ≡ Some e → j < k → AreOrdered order d e
 
--- What became of commands is what the log tells; those of lost generations that their server has not taken were sent and are lost.
+-- Outcomes of commands are as the log shows them; the commands of lost generations that their server has not taken were sent and
+-- are lost.
 pub record CommandsHold (order : Order) (log : Log) (sites : List SiteState) : Type 0 where
   pub told : (tag : Tag) (place : ℕ) (atom : Atom (List ℕ)) (outcome : Outcome) → command_at order tag ≡ Some (to_place place atom) → outcome_at order tag ≡ Some outcome
       → IsTold place tag (histories_of sites place) log outcome
   pub untaken : (place i j : ℕ) (site : SiteState) (way : WayState) (tag : Tag) → slice_get sites place ≡ Some site → slice_get site.lost i ≡ Some way
       → slice_get way.untaken j ≡ Some tag → IsUntaken place order log tag
 
--- A log leaves a pool so, whose requests were taken in this order and routed by this ring at first, and which put these bytes out.
+-- A log leaves a pool in this state, whose requests were taken in this order and routed by this ring at first, and which emitted
+-- these bytes.
 pub record LogHolds (opening : RingState) (order : Order) (outs : ℕ → List ℕ) (log : Log) (pool : PoolState) : Type 0 where
   pub servers : ServersHold opening log pool
   pub requests : RequestsHold opening (length pool.sites) order log

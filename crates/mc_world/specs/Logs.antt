@@ -11,7 +11,8 @@ use Rattle.mc_world.specs.declared.logs.Logged.TheVariants.{Happened, Joined, Re
 abbrev pub Log : Type 0
 Log = List Logged
 
--- what does this: it takes a request of this client; puts one of its answers out; this server takes a request; its link is lost; it restarts
+-- whether an entry does this: it takes a request of this client; it emits one of its answers; this server takes a request; its link is lost;
+-- it restarts
 abbrev pub takes : ℕ → Logged → Bool
 takes client (Happened (ProxyTurn of)) = of == client
 takes client other = false
@@ -32,12 +33,12 @@ abbrev pub restarts : ℕ → Logged → Bool
 restarts server (Restarted at) = at == server
 restarts server other = false
 
--- how many there are
+-- the number of entries that do so
 abbrev pub number_of : (Logged → Bool) → Log → ℕ
 number_of is [] = 0
 number_of is (e ∷ es) = if is e then suc (number_of is es) else number_of is es
 
--- the log before the one of a number, the first being number 0: the whole log where there is none
+-- the log before the entry of a number, the first being number 0: the whole log if there is none
 abbrev pub before : (Logged → Bool) → ℕ → Log → Log
 before is number [] = []
 before is zero (e ∷ es) = if is e then [] else e ∷ before is zero es
@@ -48,11 +49,11 @@ abbrev pub taken_before : ℕ → ℕ → Log → ℕ
 taken_before server zero log = 0
 taken_before server (suc life) log = number_of (serves server) (before (restarts server) life log)
 
--- what it took in a life, of its history: nothing where it had no life of that number
+-- the part of its history that it took in a life: empty if it had no life of that number
 abbrev pub in_life : ℕ → ℕ → Log → List Entry → List Entry
 in_life server life log history = drop (taken_before server life log) (take (taken_before server (suc life) log) history)
 
--- whose requests were taken, one by each turn of the proxy
+-- the clients whose requests were taken, one by each turn of the proxy
 abbrev pub turn_of : Logged → List ℕ
 turn_of (Happened (ProxyTurn client)) = client ∷ []
 turn_of other = []
@@ -70,13 +71,13 @@ abbrev pub moments_of : ℕ → Log → List ℕ
 moments_of server [] = []
 moments_of server (e ∷ es) = moment_of server e ++ moments_of server es
 
--- whether a link is up after this, by whether it was
+-- whether a link is up after an entry, by whether it was before
 abbrev pub up_by : ℕ → Logged → Bool → Bool
 up_by server (Happened (LinkLost at)) up = if at == server then false else up
 up_by server (Happened (LinkBack at)) up = if at == server then true else up
 up_by server other up = up
 
--- and after a log, by whether it was before
+-- whether a link is up after a log, by whether it was before
 abbrev pub up_from : ℕ → Bool → Log → Bool
 up_from server up [] = up
 up_from server up (e ∷ es) = up_from server (up_by server e up) es
@@ -85,13 +86,13 @@ up_from server up (e ∷ es) = up_from server (up_by server e up) es
 abbrev pub is_up : ℕ → Log → Bool
 is_up server log = up_from server true log
 
--- a server has joined a ring at the last place: its points are beside those that were there
+-- a server has joined a ring at the last place: its points are added to those before
 pub record HasJoined (server : ℕ) (address : List ℕ) (old new : RingState) : Type 0 where
   pub last : server ≡ length old.servers
   pub servers : new.servers ≡ old.servers ++ address ∷ []
   pub points : Shows (old.points ++ pairs_at server (points_of address)) new.points
 
--- a ring by which requests are routed after a log, where they were routed by this one at first
+-- a ring by which requests are routed after a log, if this one routed them at first
 abbrev pub IsRingAfter : RingState → Log → RingState → Type 0
 IsRingAfter ring [] now = now ≡ ring
 IsRingAfter ring (Happened event ∷ es) now = IsRingAfter ring es now

@@ -1,4 +1,4 @@
--- What happens to a pool, as the calls of its proxy and its servers say it, and where a pool is after them.
+-- What happens to a pool, as the contracts of its proxy's and servers' calls say, and the state of a pool after them.
 use Rattle.std.specs.Prelude.{ℕ, ◌≡◌, ◌+◌, ◌<◌, true, List, [], ◌∷◌, ◌++◌, length, map, take, drop, None, Some, slice_get, slice_set, All}
 use Rattle.mc_route.specs.Routes.{route_of_taken}
 use Rattle.mc_link.specs.LinkState.{LinkState, can_come_back, up_link}
@@ -21,7 +21,7 @@ use Rattle.mc_world.specs.Happens.{Arrives, ArrivesLate, ComesBack, Ends, Enters
 use Rattle.mc_world.specs.Sites.{SiteHolds}
 use Rattle.mc_world.specs.WorldState.{PoolState, SiteState}
 
--- a client's bytes are fed to its session; a request of a client is taken; one of its answers is put out
+-- a client's bytes are fed to its session; a request of a client is taken; one of its answers is emitted
 pub record HearsClient (client : ℕ) (piece : List ℕ) (old new : PoolState) : Type 0 where
   pub steps : Steps client old.proxy new.proxy (Alone (IsFed piece))
   pub sites : new.sites ≡ old.sites
@@ -45,7 +45,7 @@ pub record PutsAnswer (client : ℕ) (old new : PoolState) : Type 0 where
   pub steps : Steps client old.proxy new.proxy (Alone (IsEmit emits.Done))
   pub sites : new.sites ≡ old.sites
 
--- a client takes the first bytes that were put out to it; a client goes
+-- a client takes the first bytes that were emitted to it; a client goes
 pub record TakesBytes (client count : ℕ) (old new : PoolState) : Type 0 where
   pub proxy : new.proxy ≡ sent_by client count (session_at old.proxy client) old.proxy
   pub sites : new.sites ≡ old.sites
@@ -55,7 +55,7 @@ pub record ClientGoes (client : ℕ) (old new : PoolState) : Type 0 where
   pub not_open : session_at new.proxy client ≡ None
   pub sites : new.sites ≡ old.sites
 
--- something happens at the site of a place, whose link is up: this becomes of it and of the proxy
+-- something happens at the site of a place, whose link is up: these are the site and the proxy after it
 pub record AtSite (place : ℕ) (old new : PoolState) : Type 0 where
   pub site : SiteState
   pub now : SiteState
@@ -71,7 +71,7 @@ pub record ReachesServer (place count : ℕ) (old new : PoolState) : Type 0 wher
     links = with_link place (record (link_at old.proxy.links place) { output = drop count (link_at old.proxy.links place).output }) old.proxy.links;
   }
 
--- a server takes a request of the living generation: the command that waits after those it took
+-- a server takes a request of the living generation: the first pending command that it has not taken
 pub record ServerTakes (place moment : ℕ) (old new : PoolState) : Type 0 where
   pub there : AtSite place old new
   pub tag : Tag
@@ -79,7 +79,7 @@ pub record ServerTakes (place moment : ℕ) (old new : PoolState) : Type 0 where
   pub enters : Enters moment tag there.site there.now
   pub proxy : new.proxy ≡ old.proxy
 
--- the first bytes that its connection has come back
+-- the first bytes of its connection's output arrive at the proxy
 pub record ReachesProxy (place count : ℕ) (old new : PoolState) : Type 0 where
   pub there : AtSite place old new
   pub leaves : there.now ≡ returned count there.site
@@ -95,7 +95,8 @@ pub record TakesReply (place : ℕ) (old new : PoolState) : Type 0 where
   pub answers : Answers place old.proxy new.proxy
   pub counts : there.now ≡ taken_one there.site
 
--- a site whose link is lost: the bytes go on their way, and whose the commands are that the server has not taken is kept with them
+-- a site whose link is lost: the bytes go on their way, and the tags of the commands that the server has not taken are kept with
+-- them
 abbrev pub cut_off : LinkState → SiteState → SiteState
 cut_off link site = record site {
   lost = site.lost ++ (record {
@@ -119,7 +120,7 @@ pub record AtSiteAlone (place : ℕ) (old new : PoolState) : Type 0 where
   pub sites : new.sites ≡ slice_set old.sites place now
   pub proxy : new.proxy ≡ old.proxy
 
--- bytes of a lost generation arrive at its server; that takes a request of it; and it sees its end
+-- bytes of a lost generation arrive at its server; the server takes a request of it; and the server sees its end
 pub record LateBytes (place i count : ℕ) (old new : PoolState) : Type 0 where
   pub there : AtSiteAlone place old new
   pub arrives : ArrivesLate i count there.site there.now
@@ -132,7 +133,7 @@ pub record EndSeen (place i : ℕ) (old new : PoolState) : Type 0 where
   pub there : AtSiteAlone place old new
   pub ends : Ends i there.site there.now
 
--- a link is back: its server has admitted a connection for it
+-- a link comes up: its server has admitted a connection for it
 pub record LinkReturns (place : ℕ) (old new : PoolState) : Type 0 where
   pub site : SiteState
   pub now : SiteState
@@ -143,7 +144,8 @@ pub record LinkReturns (place : ℕ) (old new : PoolState) : Type 0 where
   pub sites : new.sites ≡ slice_set old.sites place now
   pub proxy : new.proxy ≡ record old.proxy { links = with_link place (up_link ((link_at old.proxy.links place).generation + 1)) old.proxy.links }
 
--- A pool is where an order and lanes leave its proxy, and each of its servers with its ways.
+-- The invariant of a pool: its proxy, and each of its servers with its ways, agree with an order of requests and the lanes of its
+-- links.
 pub record PoolHolds (opening : CacheState) (texts sent : ℕ → List ℕ) (order : Order) (lanes : ℕ → Lane) (pool : PoolState) : Type 0 where
   pub proxy : ProxyHolds texts sent order lanes pool.proxy
   pub sites : (place : ℕ) (site : SiteState) → slice_get pool.sites place ≡ Some site → SiteHolds place order (lanes place) (link_at pool.proxy.links place) opening site

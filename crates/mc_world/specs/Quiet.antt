@@ -11,7 +11,7 @@ use Rattle.mc_world.specs.Worlds.{CourseState, text_of}
 use Rattle.mc_world.specs.declared.events.Event.{Event}
 use Rattle.mc_world.specs.declared.events.Event.TheVariants.{ClientBytes, ClientGone, LinkBack, LinkLost}
 
--- an event of the pool itself: no client sends or goes, and no link is lost or comes back
+-- an event of the pool itself: no client sends or goes, and no link is lost or comes up
 abbrev pub is_inner : Event (List ℕ) → Bool
 is_inner (ClientBytes client bytes) = false
 is_inner (ClientGone client) = false
@@ -19,8 +19,8 @@ is_inner (LinkLost server) = false
 is_inner (LinkBack server) = false
 is_inner other = true
 
--- Nothing is left to do: each request of a client that has not gone is answered, and it took all that was put out; nothing waits on a
--- link; no bytes are on any way; the end of each lost generation was seen.
+-- Nothing is left to do. Each request of a client that has not gone is answered, and the client took all bytes that were emitted. No
+-- command is pending on a link, and no bytes are on any way. The end of each lost generation was seen.
 pub record IsQuiet (c : CourseState) : Type 0 where
   pub answered : (client : ℕ) → IsThere client c.pool → number_of (puts client) c.log ≡ length (requests_of (text_of c client))
   pub taken : (client : ℕ) → output_at (session_at c.pool.proxy client) ≡ []

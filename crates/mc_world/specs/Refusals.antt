@@ -1,4 +1,4 @@
--- Why a server cannot join, or restart. Want of memory is none of these causes.
+-- Why a server cannot join, or restart. These causes do not include refused memory.
 use Rattle.std.specs.Prelude.{ℕ, nat_le, nat_lt, List, length, Option, Some, None, Result, Ok, Err, if◌then◌else◌}
 use Rattle.mc_proxy.specs.Joins.{has_server}
 use Rattle.mc_world.specs.declared.errors.WorldError.{WorldError}
@@ -9,18 +9,18 @@ abbrev pub cause_of : WorldError → Option WorldError
 cause_of Memory = None
 cause_of other = Some other
 
--- why a join or a restart was refused, where it was for another cause than memory
+-- why a join or a restart was refused, if the cause is not memory
 abbrev pub refusal_in : {T S : Type 0} → Result T (WorldError × S) → Option WorldError
 refusal_in (Ok value) = None
 refusal_in (Err refused) = cause_of refused.0
 
--- why a server of an address cannot join these: there are 64, or one of this address
+-- why a server of an address cannot join these servers: there are 64, or one of this address
 abbrev pub refusal_of : List (List ℕ) → List ℕ → Option WorldError
 refusal_of servers address =
     if nat_le 64 (length servers) then Some RingFull
     else if has_server servers address then Some AlreadyThere
     else None
 
--- why the server of a place cannot restart, where there are so many: there is none at that place
+-- why the server of a place cannot restart, if there are this many: no server has that place
 abbrev pub restart_refusal_of : ℕ → ℕ → Option WorldError
 restart_refusal_of servers place = if nat_lt place servers then None else Some NoServer

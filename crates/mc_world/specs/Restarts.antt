@@ -30,7 +30,7 @@ pub record ServerRestarts (place : ℕ) (opening : CacheState) (old new : PoolSt
 abbrev pub IsCut : ℕ → CourseState → CourseState → Type 0
 IsCut place old new = (IsUp place old.pool × IsDone (LinkLost place) old new) ⊎ ((IsUp place old.pool → ⊥) × (new ≡ old))
 
--- a server restarts in the course of a world: its link is lost first, if it is up; the log has both, and no client is another
+-- a server restarts in the course of a world: its link is lost first, if it is up; the log has both, and the clients stay
 pub record HasServerRestarted (place : ℕ) (opening : CacheState) (old new : CourseState) : Type 0 where
   pub cut : CourseState
   pub loses : IsCut place old cut

@@ -1,4 +1,4 @@
--- In which order a drain does what is left: this project's own.
+-- The order in which a drain does what is left: this project's own.
 use Rattle.std.specs.Prelude.{ℕ, zero, suc, ◌≡◌, length, Some, slice_get}
 use Rattle.mc_world.specs.Acts.{IsIdle, IsRested, event_of}
 use Rattle.mc_world.specs.Courses.{Applies, IsDone}
@@ -7,7 +7,7 @@ use Rattle.mc_world.specs.Worlds.{CourseState}
 use Rattle.mc_world.specs.declared.acts.Act.{Act}
 use Rattle.mc_world.specs.declared.acts.Act.TheVariants.{PutAnswer, ReachProxy, ReachServer, SeeEnd, Serve, TakeBytes, TakeReply, TakeRequest}
 
--- this is done for each of so many numbers, from 0 on
+-- this is done for each number below this one, from 0 on
 abbrev pub InOrder : (ℕ → CourseState → CourseState → Type 0) → ℕ → CourseState → CourseState → Type 0
 InOrder Does zero old new = new ≡ old
 InOrder Does (suc number) old new = (mid : CourseState) × InOrder Does number old mid × Does number mid new
@@ -19,11 +19,11 @@ EachClient Does old new = InOrder Does (length old.clients) old new
 abbrev pub EachServer : (ℕ → CourseState → CourseState → Type 0) → CourseState → CourseState → Type 0
 EachServer Does old new = InOrder Does (length old.pool.sites) old new
 
--- this is done again and again, so many times, until it is over
+-- this is done repeatedly, this number of times, until it is over
 abbrev pub Until : (CourseState → Type 0) → (CourseState → CourseState → Type 0) → CourseState → CourseState → Type 0
 Until Over Does old new = (times : ℕ) × InOrder (λ time. Does) times old new × Over new
 
--- one after the other
+-- two steps in sequence
 abbrev pub Then : (CourseState → CourseState → Type 0) → (CourseState → CourseState → Type 0) → CourseState → CourseState → Type 0
 Then One Other old new = (mid : CourseState) × One old mid × Other mid new
 
@@ -40,9 +40,9 @@ abbrev pub Alternates : ℕ → Act → Act → CourseState → CourseState → 
 Alternates moment one other old new =
     Until (λ c. IsIdle moment c.pool one × IsIdle moment c.pool other) (Then (Repeats moment one) (Repeats moment other)) old new
 
--- A round: each client has every request taken that can be. Each server gets all bytes and takes every request that it can, in alternation;
--- then all its bytes come back and all replies are taken, in alternation. Each client is put out every answer that is known and takes all
--- bytes, in alternation.
+-- A round. For each client the proxy takes every request that it can. Each server gets all bytes and takes every request that it can, in
+-- alternation; then the proxy gets all its bytes and takes all replies, in alternation. Each client is sent every answer that is known and
+-- takes all bytes, in alternation.
 pub record IsRound (moment : ℕ) (old new : CourseState) : Type 0 where
   pub taken : CourseState
   pub served : CourseState
@@ -50,12 +50,12 @@ pub record IsRound (moment : ℕ) (old new : CourseState) : Type 0 where
   pub servers : EachServer (λ place. Then (Alternates moment (ReachServer place) (Serve place)) (Alternates moment (ReachProxy place) (TakeReply place))) taken served
   pub answers : EachClient (λ client. Alternates moment (PutAnswer client) (TakeBytes client)) served new
 
--- the ends: the lost generations of each server rise, and it sees their ends from the first on
+-- each server sees the ends of its lost generations, which rise, from the first on
 pub record SeesEnds (moment : ℕ) (old new : CourseState) : Type 0 where
   pub rising : (place : ℕ) (site : SiteState) → slice_get old.pool.sites place ≡ Some site → IsRising site.lost
   pub ends : EachServer (λ place. Repeats moment (SeeEnd place)) old new
 
--- a drain: servers see the ends of their lost generations, and then it goes in rounds, until no act applies
+-- a drain: servers see the ends of their lost generations, and then rounds follow, until no act applies
 pub record DrainsInRounds (moment : ℕ) (old new : CourseState) : Type 0 where
   pub ended : CourseState
   pub ends : SeesEnds moment old ended

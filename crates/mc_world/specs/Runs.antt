@@ -13,20 +13,20 @@ Goes event old new = IsDone event old new ⊎ (new ≡ old)
 
 -- a call of a world
 pub data Call : Type 0 where
-  -- an event, that is done where it applies
+  -- an event, which is done if it applies
   Step : Event (List ℕ) → Call
   -- a server of this address joins
   Join : List ℕ → Call
   -- the server of this place restarts
   Restart : ℕ → Call
 
--- what a call does, where this is the cache of a server that joins or restarts: nothing has changed where it does not apply, is refused, or memory was
+-- what a call does, with this cache for a server that joins or restarts: nothing has changed if it does not apply, is refused, or memory was
 abbrev pub IsCalled : CacheState → Call → CourseState → CourseState → Type 0
 IsCalled opening (Step event) old new = Goes event old new
 IsCalled opening (Join address) old new = HasServerJoined address opening old new ⊎ (new ≡ old)
 IsCalled opening (Restart place) old new = HasServerRestarted place opening old new ⊎ (new ≡ old)
 
--- calls of each kind one after another, in any order
+-- calls of each kind in sequence, in any order
 abbrev pub Calls : CacheState → List Call → CourseState → CourseState → Type 0
 Calls opening [] old new = new ≡ old
 Calls opening (call ∷ calls) old new = (next : CourseState) × IsCalled opening call old next × Calls opening calls next new

@@ -1,4 +1,4 @@
--- What the calls of a pool rest on: its servers serve a proxy.
+-- The premises of a pool's calls: its servers serve a proxy.
 use Rattle.std.specs.Prelude.{ℕ, ◌≡◌, ◌<◌, ◌≤◌, true, List, length, Some, slice_get}
 use Rattle.mc_request.specs.declared.parts.Atom.{Atom}
 use Rattle.mc_request.specs.declared.parts.Taken.{Taken}
@@ -16,11 +16,11 @@ use Rattle.mc_server.specs.Turns.{waiting_of}
 use Rattle.mc_proxy.specs.SessionState.{link_at}
 use Rattle.mc_world.specs.WorldState.{PoolState, SiteState, WayState}
 
--- a request is a command as a proxy spells it
+-- a request is a command as a proxy encodes it
 abbrev pub IsSpelled : Taken → Type 0
 IsSpelled what = (atom : Atom (List ℕ)) × (what ≡ Whole (request_of atom)) × (is_good_atom atom ≡ true)
 
--- a server serves a proxy on a connection: that is open, what the server takes next of it is a command as a proxy spells it, and the
+-- a server serves a proxy on a connection: the connection is open, the next request on it is a command as a proxy encodes it, and the
 -- cache's reply is one that the command can have
 pub record ServesProxy (number : ℕ) (server : ServerState) : Type 0 where
   pub end : ConnectionState
@@ -28,8 +28,8 @@ pub record ServesProxy (number : ℕ) (server : ServerState) : Type 0 where
   pub spelled : (what : Taken) (after : ReaderState) → IsFirst end.reader what after → IsSpelled what
   pub good_cache : IsGoodCache server.cache
 
--- So it is at a site, whose link this is, of each generation: where a request is whole it is known whose it is; what comes back is never
--- strange, and a reply is of a command that was taken.
+-- A site, whose link this is, serves on each generation. If a whole request has arrived, its tag is known. The server's bytes are no
+-- protocol violation, and each reply is to a command that was taken.
 pub record SiteServes (link : LinkState) (site : SiteState) : Type 0 where
   pub generation : site.generation ≡ link.generation
   pub living : link.up ≡ true → ServesProxy site.connection site.server
@@ -40,7 +40,7 @@ pub record SiteServes (link : LinkState) (site : SiteState) : Type 0 where
   pub untaken : (i : ℕ) (way : WayState) → slice_get site.lost i ≡ Some way → 0 < length (waiting_of (connection_at site.server way.connection))
       → 0 < length way.untaken
 
--- and at each site of a pool, one for each link
+-- each site of a pool serves, one for each link
 pub record PoolServes (pool : PoolState) : Type 0 where
   pub sited : length pool.sites ≡ length pool.proxy.links
   pub sites : (place : ℕ) (site : SiteState) → slice_get pool.sites place ≡ Some site → SiteServes (link_at pool.proxy.links place) site

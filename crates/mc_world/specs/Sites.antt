@@ -1,4 +1,4 @@
--- Where what a proxy took leaves a server and the ways to it.
+-- The state in which the requests that a proxy took leave a server and the ways to it.
 use Rattle.std.specs.Prelude.{ℕ, ◌≡◌, ◌≢◌, ◌+◌, ◌≤◌, true, List, [], ◌∷◌, ◌++◌, length, map, Some, slice_get}
 use Rattle.std.specs.List.{list_all}
 use Rattle.mc_link.specs.LinkState.{LinkState}
@@ -14,13 +14,14 @@ use Rattle.mc_history.specs.Made.{AreMade, Each, Made, commands_on, entry_of, ta
 use Rattle.mc_history.specs.Named.{AreReplied, IsNamed, tags_made, tags_of, times}
 use Rattle.mc_world.specs.WorldState.{SiteState, WayState}
 
--- how often a tag is among those of lost generations whose commands were not taken
+-- how often a tag is among the commands of lost generations that were not taken
 abbrev pub untaken_times : Tag → List WayState → ℕ
 untaken_times tag [] = 0
 untaken_times tag (way ∷ ways) = times tag way.untaken + untaken_times tag ways
 
--- The living generation: its connection is open; what left the one end came to the other, both ways; of the commands that were sent the
--- server took the first, and of these the replies to the first were taken. No command was sent more often than it was taken, in any life.
+-- The living generation. Its connection is open. The bytes that left one end arrived at the other, both ways. The server took the first
+-- of the commands that were sent, and the proxy took the replies to the first of these. No command was taken, or is to be taken, more
+-- often than it was sent, in any life.
 pub record IsLiving (place : ℕ) (order : Order) (lane : Lane) (all made : List Made) (texts sent : ℕ → List ℕ) (site : SiteState) : Type 0 where
   pub end : ConnectionState
   pub is_open : connection_at site.server site.connection ≡ Some end
@@ -31,7 +32,8 @@ pub record IsLiving (place : ℕ) (order : Order) (lane : Lane) (all made : List
   pub ahead : site.ahead + length lane.replies ≡ length (commands_on site.connection made)
   pub once : (tag : Tag) → times tag (tags_made all) + times tag (tags_of others) + untaken_times tag site.lost ≤ times tag (tags_of (commands_to place order))
 
--- A lost generation: its connection is open; what came and what is on its way spells what the server took and what it has not.
+-- A lost generation: its connection is open; the bytes that arrived and those on their way encode the commands that the server took and
+-- those that it has not.
 pub record IsLostWay (place : ℕ) (order : Order) (made : List Made) (texts : ℕ → List ℕ) (server : ServerState) (way : WayState) : Type 0 where
   pub end : ConnectionState
   pub is_open : connection_at server way.connection ≡ Some end
@@ -41,8 +43,8 @@ pub record IsLostWay (place : ℕ) (order : Order) (made : List Made) (texts : �
   pub untaken : way.untaken ≡ map (λ command. command.1) others
   pub named : Each (IsNamed place order) others
 
--- A server is where what it made in this life leaves it, with each of its ways: its history tells what it made in all its lives, and its
--- cache is one whose replies can be had.
+-- The invariant of a server with its ways, from what it made in this life. Its history records what it made in all its lives. Its cache
+-- is good, so its replies are ones that commands can have.
 pub record SiteHolds (place : ℕ) (order : Order) (lane : Lane) (link : LinkState) (opening : CacheState) (site : SiteState) : Type 0 where
   pub past : List Made
   pub made : List Made
@@ -57,7 +59,7 @@ pub record SiteHolds (place : ℕ) (order : Order) (lane : Lane) (link : LinkSta
   pub named : Each (λ m. IsNamed place order m.command) (past ++ made)
   pub all_named : Each (IsNamed place order) (commands_to place order)
   pub replied : AreReplied place order site.history
-  -- each command that was sent was taken, or is still to be taken, once at most
+  -- each command that was sent was taken, or is still to be taken, at most once
   pub once : (tag : Tag) → times tag (tags_made (past ++ made)) + untaken_times tag site.lost ≤ times tag (tags_of (commands_to place order))
   pub living : link.up ≡ true → IsLiving place order lane (past ++ made) made texts sent site
   pub lost : (i : ℕ) (way : WayState) → slice_get site.lost i ≡ Some way → IsLostWay place order made texts site.server way

@@ -1,4 +1,4 @@
--- How much is left to do in a pool: a number that each event of a drain lessens. This project's own.
+-- How much is left to do in a pool: a number that each event of a drain reduces. This project's own.
 use Rattle.std.specs.Prelude.{ℕ, ◌+◌, ◌-◌, ◌*◌, List, [], ◌∷◌, length, if◌then◌else◌}
 use Rattle.mc_request.specs.declared.parts.Taken.{Taken}
 use Rattle.mc_request_reader.specs.Reader.{rest_of}
@@ -10,18 +10,18 @@ use Rattle.mc_proxy.specs.SessionState.{SessionState}
 use Rattle.mc_proxy.specs.ProxyState.{Sessions}
 use Rattle.mc_world.specs.WorldState.{PoolState, SiteState, WayState}
 
--- bytes that can be moved at once: one thing to do, where there are any
+-- bytes that can be moved at once: one thing to do, if there are any
 abbrev pub moves_of : List ℕ → ℕ
 moves_of [] = 0
 moves_of (b ∷ bs) = 1
 
--- requests that were not taken: of each its turn, its answer and the move of that; and four things for each of its commands, which are
--- its move to the server, its turn there, the move of the reply, and the reply's turn
+-- requests that were not taken: for each its turn, its answer and the move of that; and four things for each of its commands, which
+-- are its move to the server, its turn there, the move of the reply, and the reply's turn
 abbrev pub work_of_requests : RingState → List Taken → ℕ
 work_of_requests ring [] = 0
 work_of_requests ring (what ∷ others) = 3 + 4 * length (route_of_taken ring what) + work_of_requests ring others
 
--- a session: also of each unanswered request its answer and the move of that, and the move of what was put out
+-- a session: for each unanswered request also its answer and the move of that, and the move of the bytes that were emitted
 abbrev pub work_of_session : RingState → SessionState → ℕ
 work_of_session ring session = work_of_requests ring (rest_of session.reader []) + 2 * length session.unanswered + moves_of session.output
 
@@ -29,8 +29,8 @@ abbrev pub work_of_sessions : RingState → Sessions → ℕ
 work_of_sessions ring [] = 0
 work_of_sessions ring (open_one ∷ others) = work_of_session ring open_one.1 + work_of_sessions ring others
 
--- a link that is up: of each command that its server has not taken its turn there, the move of the reply and the reply's turn; of each
--- that was taken the reply's turn; and the moves of the bytes that are on their way
+-- a link that is up: for each command that its server has not taken its turn there, the move of the reply and the reply's turn; for
+-- each that was taken the reply's turn; and the moves of the bytes that are on their way
 abbrev pub work_on : LinkState → SiteState → ℕ
 work_on link site =
     3 * (length link.waiting - site.ahead) + site.ahead + (moves_of link.output + moves_of (output_of (connection_at site.server site.connection)))
@@ -38,7 +38,7 @@ work_on link site =
 abbrev pub work_of_link : LinkState → SiteState → ℕ
 work_of_link link site = if link.up then work_on link site else 0
 
--- lost generations: of each its end, and the turns of the commands that were not taken
+-- lost generations: for each its end, and the turns of the commands that were not taken
 abbrev pub work_of_ways : List WayState → ℕ
 work_of_ways [] = 0
 work_of_ways (way ∷ ways) = 1 + length way.untaken + work_of_ways ways

@@ -5,8 +5,8 @@ use Rattle.mc_server.specs.ServerState.{ServerState}
 use Rattle.mc_proxy.specs.ProxyState.{ProxyState}
 use Rattle.mc_history.specs.declared.entries.Entry.{Entry}
 
--- a generation that was lost, and whose end its server has not seen: which it is, the number of the server's connection, the bytes on
--- their way, and whose the commands are that the server has not taken
+-- a lost generation whose end its server has not seen: its number, the number of the server's connection, the bytes on their way, and the tags of the commands
+-- that the server has not taken
 pub record WayState : Type 0 where
   pub generation : ℕ
   pub connection : ℕ
@@ -17,8 +17,8 @@ pub record WayState : Type 0 where
 abbrev pub IsRising : List WayState → Type 0
 IsRising ways = (i j : ℕ) (v w : WayState) → slice_get ways i ≡ Some v → slice_get ways j ≡ Some w → i < j → v.generation < w.generation
 
--- a server with its ways: what it took in all its lives, and how many requests before this one; the living generation, its connection, and how many commands it took there whose replies the
--- proxy has not taken; and the lost generations
+-- a server with its ways: what it took in all its lives, and how many requests before this one; the living generation, its connection, and how many commands it
+-- took there whose replies the proxy has not taken; and the lost generations
 pub record SiteState : Type 0 where
   pub server : ServerState
   pub history : List Entry
@@ -37,13 +37,13 @@ pub record PoolState : Type 0 where
   pub proxy : ProxyState
   pub sites : List SiteState
 
--- the histories of servers by their places: none where there is no server
+-- the histories of servers by their places: empty if there is no server
 abbrev pub histories_of : List SiteState → ℕ → List Entry
 histories_of [] place = []
 histories_of (site ∷ sites) zero = site.history
 histories_of (site ∷ sites) (suc place) = histories_of sites place
 
--- how many requests they took before their lives began: none where there is no server
+-- how many requests they took before their lives began: none if there is no server
 abbrev pub begun_of : List SiteState → ℕ → ℕ
 begun_of [] place = 0
 begun_of (site ∷ sites) zero = site.begun

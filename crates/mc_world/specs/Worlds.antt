@@ -12,12 +12,12 @@ use Rattle.mc_history.specs.declared.entries.Entry.{Entry}
 use Rattle.mc_world.specs.Logs.{Log}
 use Rattle.mc_world.specs.WorldState.{PoolState, SiteState, histories_of, with_server}
 
--- a client: the bytes that it sent, and those that it took; when it goes it takes all that was put out
+-- a client: the bytes that it sent, and those that it took; a client that goes takes all that were emitted
 pub record ClientState : Type 0 where
   pub text : List ℕ
   pub taken : List ℕ
 
--- the course of a world: its pool, its clients by the numbers of their sessions, and what was done
+-- the course of a world: its pool, its clients by the numbers of their sessions, and the log of what was done
 pub record CourseState : Type 0 where
   pub pool : PoolState
   pub clients : List ClientState
@@ -31,7 +31,7 @@ pub record WorldState : Type 0 where
   pub budget : ℕ
   pub items : ℕ
 
--- a client that sent and took nothing; so it is at each number that no client has
+-- a client that sent and took nothing; a number without a client has this one
 abbrev pub nobody : ClientState
 nobody = record { text = []; taken = [] }
 
@@ -41,7 +41,7 @@ client_at clients number = slice_index_or clients number nobody
 abbrev pub with_client : ℕ → ClientState → List ClientState → List ClientState
 with_client number client clients = slice_set clients number client
 
--- the text of a client, what it took, and all that was put out to it: with what it has not taken
+-- the text of a client, the bytes that it took, and all that were emitted to it, including those that it has not taken
 abbrev pub text_of : CourseState → ℕ → List ℕ
 text_of c client = (client_at c.clients client).text
 
@@ -59,7 +59,7 @@ history_of c place = histories_of c.pool.sites place
 abbrev pub cache_of : WorldState → CacheState
 cache_of w = opening_cache w.budget w.items 0
 
--- so many sessions that were just admitted, by their numbers, from one on
+-- this many sessions that were just admitted, by their numbers, from one on
 abbrev pub fresh_sessions : ℕ → ℕ → Sessions
 fresh_sessions from zero = []
 fresh_sessions from (suc more) = (from, fresh_session) ∷ fresh_sessions (suc from) more
@@ -68,7 +68,7 @@ fresh_sessions from (suc more) = (from, fresh_session) ∷ fresh_sessions (suc f
 abbrev pub first_site : CacheState → SiteState
 first_site opening = with_server (with_fresh (record { cache = opening; connections = []; admitted = 0 }))
 
--- a proxy that has admitted so many clients, whose links are all up
+-- a proxy that has admitted this many clients, whose links are all up
 abbrev pub opening_proxy : Losses → RingState → ℕ → ProxyState
 opening_proxy losses ring clients = record {
   losses = losses;
@@ -78,7 +78,7 @@ opening_proxy losses ring clients = record {
   links = replicate (length ring.servers) (up_link 1);
 }
 
--- a pool in which nothing has happened: so many clients, and a server at each place of the ring
+-- a pool in which nothing has happened: this many clients, and a server at each place of the ring
 abbrev pub opening_pool : Losses → CacheState → RingState → ℕ → PoolState
 opening_pool losses opening ring clients = record { proxy = opening_proxy losses ring clients; sites = replicate (length ring.servers) (first_site opening) }
 

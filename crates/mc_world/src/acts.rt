@@ -17,20 +17,20 @@ pub(crate) enum Act {
     ReachServer(usize),
     /// The server takes a request.
     Serve(usize),
-    /// All bytes of the server come back to the proxy.
+    /// All bytes of the server arrive at the proxy.
     ReachProxy(usize),
     /// The proxy takes a reply of the server.
     TakeReply(usize),
-    /// An answer is put out to the client.
+    /// An answer is emitted to the client.
     PutAnswer(u64),
-    /// The client takes all bytes that were put out to it.
+    /// The client takes all bytes that were emitted to it.
     TakeBytes(u64),
 }
 
 impl<S: Store + Drop> Pool<S> {
     ghost use Rattle.mc_world.specs.Acts.{coming_of, event_of, generation_of, lost_of};
 
-    /// The event of an act, which applies where the act does.
+    /// The event of an act, which applies if the act does.
     pub(crate) fn event_of(&self, act: Act, moment: u64) -> Event<Block>
         ensures { result ≡ event_of act moment self.now }
     {
@@ -63,7 +63,7 @@ impl<S: Store + Drop> Pool<S> {
         }
     }
 
-    /// Which generation lives at a place, or lived last: 0 where there is no server.
+    /// The generation that lives at a place, or lived last: 0 if there is no server.
     fn generation(&self, place: usize) -> u64
         ensures { result ≡ generation_of (slice_get self.now.sites place) }
     {
@@ -73,7 +73,7 @@ impl<S: Store + Drop> Pool<S> {
         }
     }
 
-    /// Which was lost first of those whose end the server has not seen: 0 where there is none.
+    /// The first lost generation whose end the server has not seen: 0 if there is none.
     fn lost_generation(&self, place: usize) -> u64
         ensures { result ≡ lost_of (slice_get self.now.sites place) }
     {
@@ -86,7 +86,7 @@ impl<S: Store + Drop> Pool<S> {
         }
     }
 
-    /// The bytes on the way back from a server.
+    /// The bytes on the way from a server to the proxy.
     fn coming(&self, place: usize) -> &[u8]
         ensures { result.now ≡ coming_of (slice_get self.now.sites place) }
     {

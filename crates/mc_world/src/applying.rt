@@ -11,7 +11,7 @@ impl<S: Store + Drop> Pool<S> {
     ghost use Rattle.mc_world.specs.Courses.{Applies, ByWay};
     ghost use Rattle.mc_world.specs.Serving.{PoolServes};
 
-    /// Whether an event applies: where it does not, its call does nothing.
+    /// Whether an event applies: if it does not, its call does nothing.
     pub fn applies(&self, event: &Event<Block>) -> bool
         requires serves { PoolServes self.now }
         ensures { IsTrue result ↔ Applies event.now self.now }
@@ -62,7 +62,7 @@ impl<S: Store + Drop> Pool<S> {
         }
     }
 
-    /// Whether a request of a generation, living or lost, has come whole to its server.
+    /// Whether a whole request of a generation, living or lost, has arrived at its server.
     fn can_serve(&self, place: usize, generation: u64) -> bool
         ensures { IsTrue result ↔ ByWay place generation self.now (CanServe place self.now) (CanServeLate place generation self.now) }
     {
@@ -91,7 +91,7 @@ impl<S: Store + Drop> Pool<S> {
         !site.output().is_empty()
     }
 
-    /// Whether a link can come back.
+    /// Whether a link can come up again.
     fn can_return(&self, place: usize) -> bool
         requires serves { PoolServes self.now }
         ensures { IsTrue result ↔ CanReturn place self.now }
@@ -108,7 +108,7 @@ impl<S: Store + Drop> Pool<S> {
         site.server.can_admit()
     }
 
-    /// Whether a server has not seen the end of a lost generation.
+    /// Whether a generation is lost and its server has not seen the end.
     fn has_lost(&self, place: usize, generation: u64) -> bool
         ensures { IsTrue result ↔ HasLost place generation self.now }
     {

@@ -1,4 +1,4 @@
-//! The course of a world: its pool, its clients, and the log of what was done.
+//! The course of a world: its pool, its clients, and the log of its events.
 ghost use Rattle.std.specs.Prelude.{◌≡◌, ◌<◌, ◌^◌, ◌↔◌, [], length, IfErr, IfOk, OnOk, OnErr};
 
 use crate::clients::Client;
@@ -14,7 +14,7 @@ use std::alloc::Global;
 use std::marker::Model;
 use std::mem;
 
-/// A pool, its clients by the numbers of their sessions, and what was done. Contracts see all three.
+/// A pool, its clients by the numbers of their sessions, and the log of what was done. Contracts see all three.
 #[derive(Drop)]
 pub(crate) struct Course<S: Store + Drop> {
     pub(crate) alloc: Global,
@@ -41,8 +41,8 @@ impl<S: Store + Drop> Course<S> {
     ghost use Rattle.mc_world.specs.declared.errors.Step.TheVariants.{Done};
     ghost use Rattle.mc_world.specs.declared.events.Event.TheVariants.{ClientBytes, ClientGone, ClientTakes, ServerTurn, ToServer};
 
-    /// Does what an event says, where it applies, and puts it down in the log, in which there is room first: so the log is out of
-    /// reach of what happens. Where the event does not apply no memory is asked for. At an error nothing has changed.
+    /// Executes an event if it applies, and logs it. Room in the log is reserved first, so after the event nothing can fail. If the
+    /// event does not apply, no memory is asked for. At an error nothing has changed.
     pub(crate) fn step(&mut self, event: &Event<Block>) -> Result<Step, WorldError>
         requires serves { CourseServes self.old }
         ensures done { IfOk result (λ step. Does step (IsDone event.now self.old self.new) (self.new ≡ self.old)) }
@@ -64,8 +64,8 @@ impl<S: Store + Drop> Course<S> {
         Ok(Step::Done)
     }
 
-    /// A server that has admitted nobody joins at the last place, which is given. At an error nothing has changed, and the server is
-    /// given back with the cause.
+    /// Adds a server that has admitted nobody at the last place, and returns that place. At an error nothing has changed, and the
+    /// server is returned with the cause.
     pub(crate) fn join(
         &mut self,
         address: Address,
@@ -95,8 +95,8 @@ impl<S: Store + Drop> Course<S> {
         Ok(place)
     }
 
-    /// A server is another, which has admitted nobody. Its link is lost first, if it is up. At an error nothing has changed, and the
-    /// server that was to come is given back with the cause.
+    /// Replaces a server by another, which has admitted nobody. Its link is lost first, if it is up. At an error nothing has
+    /// changed, and the new server is returned with the cause.
     pub(crate) fn restart(
         &mut self,
         place: usize,
@@ -127,7 +127,7 @@ impl<S: Store + Drop> Course<S> {
         Ok(())
     }
 
-    /// Does it, but for the log.
+    /// Executes the event, without logging it.
     fn happen(&mut self, event: &Event<Block>) -> Result<Step, WorldError>
         requires serves { CourseServes self.old }
         ensures happens { IfOk result (λ step. Does step (HappensTo event.now self.old self.new) (self.new ≡ self.old)) }
@@ -160,7 +160,7 @@ impl<S: Store + Drop> Course<S> {
         }
     }
 
-    /// A client sends bytes. Its text is made longer once its session has them.
+    /// A client sends bytes. Its text is extended once its session has them.
     fn hear(&mut self, number: u64, bytes: &[u8]) -> Result<Step, WorldError>
         requires serves { CourseServes self.old }
         ensures happens { IfOk result (λ step. Does step (HappensTo (ClientBytes number bytes.now) self.old self.new) (self.new ≡ self.old)) }
@@ -178,7 +178,7 @@ impl<S: Store + Drop> Course<S> {
         Ok(Step::Done)
     }
 
-    /// A client goes. What was put out to it and that it has not taken is kept with what it took.
+    /// A client goes. Bytes that were emitted to it, and that it has not taken, are kept with those that it took.
     fn let_go(&mut self, number: u64) -> Result<Step, WorldError>
         requires serves { CourseServes self.old }
         ensures happens { IfOk result (λ step. Does step (HappensTo (ClientGone number) self.old self.new) (self.new ≡ self.old)) }
@@ -197,7 +197,7 @@ impl<S: Store + Drop> Course<S> {
         Ok(Step::Done)
     }
 
-    /// A client takes the first of the bytes that were put out to it, so many or all.
+    /// A client takes the first of the bytes that were emitted to it: this number, or all.
     fn give(&mut self, number: u64, count: usize) -> Result<Step, WorldError>
         requires serves { CourseServes self.old }
         ensures happens { IfOk result (λ step. Does step (HappensTo (ClientTakes number count) self.old self.new) (self.new ≡ self.old)) }

@@ -1,4 +1,4 @@
-//! All that is left to do in a world is done.
+//! Drains: all that is left to do in a world is done.
 ghost use Rattle.std.specs.Prelude.{◌≡◌, ◌<◌, ◌^◌, true, IfErr, IfOk, OnErr, OnOk};
 
 use crate::acts::Act;
@@ -14,13 +14,13 @@ impl<S: Store + Drop> World<S> {
     ghost use Rattle.mc_world.specs.Quiet.{IsQuiet};
     ghost use Rattle.mc_world.specs.Steps.{GivesAccount};
 
-    /// Does all that is left to do, at a moment, until the world is quiet: each whole request of each client that has not gone is
-    /// answered and taken, and nothing is left on any way. No link is lost by it, and none comes back.
+    /// Does all that is left to do, at a moment, until the world is quiet. Then each whole request of each client that has not gone is
+    /// answered and taken, and nothing is left on any way. It loses no link, and no link comes up.
     ///
-    /// First the servers see the ends of all generations that were lost, servers and generations in order. Then it goes in rounds,
-    /// until a round does nothing. In a round each client, in order, has every request taken that can be. Each server, in order, gets all
-    /// bytes and takes every request that it can, one after the other until neither applies; then all its bytes come back, and all replies are
-    /// taken. Each client, in order, is put out every answer that is known, and takes all bytes.
+    /// First the servers see the ends of all lost generations, servers and generations in order. Then it goes in rounds, until a round does
+    /// nothing. In a round the proxy takes, for each client in order, every request that it can. Each server, in order, gets all bytes and
+    /// takes every request that it can, in alternation until neither applies. Then the proxy gets all its bytes, and takes all replies. Each
+    /// client, in order, is sent every answer that is known, and takes all bytes.
     ///
     /// At `Memory` some of these events were done: the world gives account, and can be drained again.
     pub fn drain(&mut self, moment: u64) -> Result<(), WorldError>
@@ -39,7 +39,7 @@ impl<S: Store + Drop> World<S> {
         Ok(())
     }
 
-    /// Servers see their ends, and then it does rounds until one does nothing.
+    /// Lets the servers see their ends, and then does rounds until one does nothing.
     fn rest(&mut self, moment: u64) -> Result<(), WorldError>
         requires moment { moment < 2 ^ 63 }
         ensures drained { HasDrained moment self.old self.new }
@@ -52,7 +52,7 @@ impl<S: Store + Drop> World<S> {
         Ok(())
     }
 
-    /// Where no act of a drain applies the world is quiet. The call does nothing: its contract is the law.
+    /// A world in which no act of a drain applies is quiet. The call does nothing: its contract is the law.
     fn is_quiet(&self, moment: u64)
         requires moment { moment < 2 ^ 63 }
         requires rested { IsRested moment self.now.course }
@@ -61,7 +61,7 @@ impl<S: Store + Drop> World<S> {
         let _ = self.course.log.len();
     }
 
-    /// A round, and whether anything was done in it.
+    /// Does a round, and returns whether anything was done in it.
     fn round(&mut self, moment: u64) -> Result<bool, WorldError>
         requires moment { moment < 2 ^ 63 }
         requires ended { NoServer moment SeeEnd self.old.course }
@@ -76,7 +76,7 @@ impl<S: Store + Drop> World<S> {
         Ok(taken | served | answered)
     }
 
-    /// Servers see the ends of the generations that were lost.
+    /// Lets the servers see the ends of the lost generations.
     fn see_ends(&mut self, moment: u64) -> Result<(), WorldError>
         requires moment { moment < 2 ^ 63 }
         ensures drained { HasDrained moment self.old self.new }
@@ -91,7 +91,7 @@ impl<S: Store + Drop> World<S> {
         Ok(())
     }
 
-    /// The proxy takes the requests of clients.
+    /// Lets the proxy take the requests of the clients.
     fn take_requests(&mut self, moment: u64) -> Result<bool, WorldError>
         requires moment { moment < 2 ^ 63 }
         ensures over { IfOk result (λ did. IsOver moment (NoClient moment TakeRequest) did self.old self.new) }
@@ -108,7 +108,7 @@ impl<S: Store + Drop> World<S> {
         Ok(did)
     }
 
-    /// Servers get their bytes and take the requests in them, and the proxy gets and takes the replies.
+    /// Lets the servers get their bytes and take the requests in them, and the proxy get and take the replies.
     fn serve_all(&mut self, moment: u64) -> Result<bool, WorldError>
         requires moment { moment < 2 ^ 63 }
         ensures over { IfOk result (λ did. IsOver moment (λ c. NoServer moment ReachServer c × NoServer moment Serve c
@@ -128,7 +128,7 @@ impl<S: Store + Drop> World<S> {
         Ok(did)
     }
 
-    /// Answers are put out to clients, which take them.
+    /// Emits answers to the clients, which take them.
     fn answer_all(&mut self, moment: u64) -> Result<bool, WorldError>
         requires moment { moment < 2 ^ 63 }
         ensures over { IfOk result (λ did. IsOver moment (λ c. NoClient moment PutAnswer c × NoClient moment TakeBytes c) did self.old self.new) }
@@ -145,7 +145,7 @@ impl<S: Store + Drop> World<S> {
         Ok(did)
     }
 
-    /// Does two acts in alternation, each as often as it applies, until neither does, and says whether anything was done.
+    /// Does two acts in alternation, each as often as it applies, until neither does, and returns whether anything was done.
     fn alternate(&mut self, first: Act, second: Act, moment: u64) -> Result<bool, WorldError>
         requires moment { moment < 2 ^ 63 }
         ensures over { IfOk result (λ did. IsOver moment (λ c. IsIdle moment c.pool first × IsIdle moment c.pool second) did self.old self.new) }
@@ -164,7 +164,7 @@ impl<S: Store + Drop> World<S> {
         }
     }
 
-    /// Does an act as often as it applies, and says whether it did.
+    /// Does an act as often as it applies, and returns whether it did.
     fn repeat(&mut self, act: Act, moment: u64) -> Result<bool, WorldError>
         requires moment { moment < 2 ^ 63 }
         ensures over { IfOk result (λ did. IsOver moment (λ c. IsIdle moment c.pool act) did self.old self.new) }
@@ -179,7 +179,7 @@ impl<S: Store + Drop> World<S> {
         Ok(did)
     }
 
-    /// Does an act where it applies, and says whether it did.
+    /// Does an act if it applies, and returns whether it did.
     fn act(&mut self, act: Act, moment: u64) -> Result<bool, WorldError>
         requires moment { moment < 2 ^ 63 }
         ensures over { IfOk result (λ did. IsOver moment (λ c. IsIdle moment c.pool act) did self.old self.new) }

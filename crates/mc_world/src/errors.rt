@@ -1,4 +1,4 @@
-//! Why a call of a world gives up.
+//! Why a call of a world fails.
 ghost use Rattle.std.specs.Prelude.{◌≡◌};
 ghost use Rattle.mc_world.specs.declared.errors.WorldError.TheVariants.{Memory};
 
@@ -10,19 +10,20 @@ use thiserror::Error;
 /// What a step did.
 #[derive(Clone, Copy, Debug, PartialEq, Eq)]
 pub enum Step {
-    /// What the event says has happened.
+    /// The event was executed.
     Done,
     /// The event did not apply. Nothing has changed.
     Nothing,
 }
 
-/// Why a call of a world gave up. Nothing has changed.
+/// Why a call of a world failed. Nothing has changed.
 #[derive(Debug, Drop, Error)]
 pub enum WorldError {
-    /// 1: no memory.
+    /// 1: memory was refused.
     #[error("out of memory")]
     Memory,
-    /// 2: more than 1,024 clients, bounds that no cache may have, or another number of stores than of servers.
+    /// 2: more than 1,024 clients, bounds that no cache may have, or a number of stores that is not the number
+    /// of servers.
     #[error("bad world")]
     BadWorld,
     /// 3: the ring has 64 servers.
@@ -31,7 +32,7 @@ pub enum WorldError {
     /// 4: the ring has a server of this address.
     #[error("the server is there already")]
     AlreadyThere,
-    /// 5: there is no server of this place.
+    /// 5: no server has this place.
     #[error("no such server")]
     NoServer,
 }

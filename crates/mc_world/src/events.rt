@@ -1,9 +1,9 @@
-//! An event, and its like without bytes.
+//! An event, and its form without bytes.
 ghost use Rattle.std.specs.Prelude.{◌≡◌};
 
 use mc_text::Block;
 
-/// What happens, in one step. `B` is the bytes of a client: a log keeps none.
+/// What happens, in one step. `B` is the type of a client's bytes: a log keeps none.
 #[derive(Clone, Copy, Debug, PartialEq, Eq)]
 pub enum Event<B> {
     /// A client sends bytes.
@@ -29,7 +29,7 @@ pub enum Event<B> {
         server: usize,
         /// Which generation of its link.
         generation: u64,
-        /// How many bytes, or all where fewer are on their way.
+        /// How many bytes; all if fewer are on their way.
         count: usize,
     },
     /// A server takes a request of a generation.
@@ -41,11 +41,11 @@ pub enum Event<B> {
         /// The moment: seconds since 1970, below 2^63.
         moment: u64,
     },
-    /// Bytes of a server come back to the proxy.
+    /// Bytes of a server arrive at the proxy.
     ToProxy {
         /// The server's place.
         server: usize,
-        /// How many bytes, or all where fewer are on their way.
+        /// How many bytes; all if fewer are on their way.
         count: usize,
     },
     /// The proxy takes a reply of a server.
@@ -53,7 +53,7 @@ pub enum Event<B> {
         /// The server's place.
         server: usize,
     },
-    /// The answer to the oldest unanswered request of a client is put out.
+    /// The answer to the oldest unanswered request of a client is emitted.
     Emit {
         /// The client's number.
         client: u64,
@@ -62,7 +62,7 @@ pub enum Event<B> {
     ClientTakes {
         /// The client's number.
         client: u64,
-        /// How many bytes, or all where fewer were put out.
+        /// How many bytes; all if fewer were emitted.
         count: usize,
     },
     /// The link to a server is lost.
@@ -70,12 +70,12 @@ pub enum Event<B> {
         /// The server's place.
         server: usize,
     },
-    /// The link to a server is back.
+    /// The link to a server comes up again.
     LinkBack {
         /// The server's place.
         server: usize,
     },
-    /// A server sees the end of a generation that was lost.
+    /// A server sees the end of a lost generation.
     ServerSeesEnd {
         /// The server's place.
         server: usize,

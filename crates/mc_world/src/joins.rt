@@ -26,11 +26,11 @@ impl<S: Store + Drop> Pool<S> {
         None
     }
 
-    /// A server that has admitted nobody joins at the last place, which is given: its link is up, of the first generation, and it
-    /// has admitted the connection of that.
+    /// Adds a server that has admitted nobody at the last place, and returns that place. Its link is up, of the first generation,
+    /// and it has admitted that link's connection.
     ///
-    /// At an error the pool is as it was, and the server is given back with the cause: its cache is as it was. `RingFull` and
-    /// `AlreadyThere` are answered as [`Pool::refusal`] says, and else `Memory`.
+    /// At an error the pool is as it was, and the server is returned with the cause: its cache is as it was. `RingFull` and
+    /// `AlreadyThere` are returned as [`Pool::refusal`] says, and otherwise `Memory`.
     pub fn join(
         &mut self,
         address: Address,

@@ -1,4 +1,4 @@
-//! What happens on lost generations of a site, and the loss and the return of its link.
+//! What happens on lost generations of a site, and how its link is lost and comes up again.
 ghost use Rattle.std.specs.Prelude.{◌≡◌, ◌+◌, ◌-◌, ◌<◌, ◌^◌, ◌↔◌, true, Some, length, slice_get, IfOk, OnOk, OnErr};
 
 use crate::errors::{Step, WorldError};
@@ -27,7 +27,7 @@ impl<S: Store + Drop> Site<S> {
         self.lost.as_slice()
     }
 
-    /// Where a lost generation is among them: the first of this number.
+    /// The index of a lost generation among them: the first of this number.
     pub fn way(&self, generation: u64) -> Option<usize>
         ensures { result ≡ way_of generation self.now.lost }
     {
@@ -36,7 +36,7 @@ impl<S: Store + Drop> Site<S> {
             .position(|way| way.generation() == generation)
     }
 
-    /// Bytes of a lost generation arrive, so many or all that are on their way.
+    /// Bytes of a lost generation arrive: this number, or all that are on their way.
     pub(crate) fn arrive_late(&mut self, i: usize, count: usize) -> Result<(), WorldError>
         requires { i < length self.old.lost }
         ensures arrives { OnOk result (ArrivesLate i count self.old self.new) }
@@ -48,7 +48,7 @@ impl<S: Store + Drop> Site<S> {
         Ok(())
     }
 
-    /// The server takes a request of a lost generation, if one is whole.
+    /// The server takes a request of a lost generation, if a whole one has arrived.
     pub(crate) fn turn_late(&mut self, i: usize, moment: u64) -> Result<Step, WorldError>
         requires inside { i < length self.old.lost }
         requires moment { moment < 2 ^ 63 }
@@ -92,8 +92,8 @@ impl<S: Store + Drop> Site<S> {
         self.lost.remove(i);
     }
 
-    /// The link to the server is lost: its bytes go on their way, and whose the commands are that the server has not taken is
-    /// kept with them.
+    /// The link to the server is lost. Its bytes go on their way, and the tags of the commands that the server has not taken
+    /// are kept with them.
     pub(crate) fn cut_off(&mut self, proxy: &mut Proxy, place: usize) -> Result<(), WorldError>
         requires { (link_at proxy.old.links place).up ≡ true }
         ensures cut { OnOk result (self.new ≡ cut_off (link_at proxy.old.links place) self.old) }
@@ -109,7 +109,7 @@ impl<S: Store + Drop> Site<S> {
         Ok(())
     }
 
-    /// The link to the server is back, as this generation, if the server can admit a connection for it.
+    /// The link to the server comes up, as this generation, if the server can admit a connection for it.
     pub(crate) fn come_back(&mut self, generation: u64) -> Result<Step, WorldError>
         ensures back { IfOk result (λ step. Does step (ComesBack generation self.old self.new) (self.new ≡ self.old)) }
         ensures applies { IfOk result (λ step. (step ≡ Step.Done) ↔ CanAdmit self.old.server) }

@@ -17,12 +17,12 @@ ghost use Rattle.mc_world.specs.Pools.{ClientGoes, TakesBytes, EndSeen, LateByte
 ghost use Rattle.mc_world.specs.WorldState.{PoolState, SiteState, begun_of, histories_of};
 ghost use Rattle.mc_history.specs.Named.{AreReplied};
 
-/// Where nothing has happened, the account is given.
+/// A pool in which nothing has happened gives account.
 pub fn nothing_gives_account()
     ensures { (losses : Losses) (ring : RingState) (opening : CacheState) → Account losses ring opening (λ _. []) (λ _. []) (λ _. []) [] }
 {}
 
-/// What a client does, or the proxy for it, keeps a pool's standing.
+/// A pool that holds still holds after what a client does, or the proxy for it.
 pub fn clients_keep_pools()
     ensures hears { (opening : CacheState) (texts sent : ℕ → List ℕ) (order : Order) (lanes : ℕ → Lane) (client : ℕ) (piece : List ℕ) (old new : PoolState)
         → ((number : ℕ) → All (λ b. b < 256) (grown client piece texts number)) → HearsClient client piece old new
@@ -39,7 +39,7 @@ pub fn clients_keep_pools()
         → PutsAnswer client old new → PoolHolds opening texts sent order lanes old → PoolHolds opening texts sent order lanes new }
 {}
 
-/// So does what happens on a living generation, and its loss.
+/// A pool that holds still holds after what happens on a living generation, and after its loss.
 pub fn living_ways_keep_pools()
     ensures reaches_server { (opening : CacheState) (texts sent : ℕ → List ℕ) (order : Order) (lanes : ℕ → Lane) (place count : ℕ) (old new : PoolState)
         → ReachesServer place count old new → PoolHolds opening texts sent order lanes old
@@ -62,7 +62,7 @@ pub fn living_ways_keep_pools()
         → PoolHolds opening texts sent (note_all (map (λ waiting. waiting.1) (link_at old.proxy.links place).waiting) Lost order) lanes new }
 {}
 
-/// So do late bytes and late turns of a lost generation, its end, and the return of a link.
+/// A pool that holds still holds after late bytes and late turns of a lost generation, its end, and the return of a link.
 pub fn lost_ways_keep_pools()
     ensures late_bytes { (opening : CacheState) (texts sent : ℕ → List ℕ) (order : Order) (lanes : ℕ → Lane) (place i count : ℕ) (old new : PoolState)
         → LateBytes place i count old new → PoolHolds opening texts sent order lanes old → PoolHolds opening texts sent order lanes new }
@@ -76,9 +76,9 @@ pub fn lost_ways_keep_pools()
         → PoolHolds opening texts sent order (changed place (fresh_lane (length order)) lanes) new }
 {}
 
-/// A pool that is where its calls left it (`PoolHolds`) gives account of its commands. Each client's requests were taken in order, each
-/// server's history since its life began is legal, all its entries are of commands that were sent to it, and no command has two entries in all
-/// histories. A reply that is known of a command is that of its entry in the history of its server.
+/// A pool in the state in which its calls leave it (`PoolHolds`) gives account of its commands. Each client's requests were taken in order.
+/// Each server's history since its life began is legal, and all its entries are of commands that were sent to it. No command has two entries
+/// in all histories. A known reply of a command is that of its entry in the history of its server.
 pub fn pools_account_for_commands()
     ensures commands { (opening : CacheState) (texts sent : ℕ → List ℕ) (order : Order) (lanes : ℕ → Lane) (pool : PoolState)
         → PoolHolds opening texts sent order lanes pool → AccountsForCommands opening order texts (histories_of pool.sites) (begun_of pool.sites) }
@@ -86,7 +86,7 @@ pub fn pools_account_for_commands()
         → PoolHolds opening texts sent order lanes pool → slice_get pool.sites place ≡ Some site → AreReplied place order site.history }
 {}
 
-/// A log that goes on: counts and links go by its last event, and the place before an event that was there stays.
+/// A log that grows: its last event decides counts and links, and the place before an earlier event stays.
 pub fn logs_go_on()
     ensures counts { (is : Logged → Bool) (log : Log) (e : Logged)
         → number_of is (log ++ e ∷ []) ≡ number_of is log + (if is e then 1 else 0) }

@@ -1,24 +1,23 @@
-//! A pool: a proxy, its servers, the ways between them, their clients, and all that can happen to them; and the account that it
-//! gives.
+//! A pool and its account: a proxy, its servers, the ways between them, their clients, and all that can happen to them.
 //!
-//! A [`World`] takes a list of events, one by one ([`World::step`], [`World::run`]), servers that join ([`World::join_server`]) and
-//! servers that die and begin anew with nothing ([`World::restart_server`]). An [`Event`] is what can happen to a pool in one step: what
-//! a script says line by line, and a world does.
-//! Whatever it took, it gives account ([`World::gives_account`]): that is its invariant, and in the contract of each of these calls.
+//! A [`World`] is a pool with a log. It executes events, one by one ([`World::step`], [`World::run`]). Servers can join ([`World::join_server`]), or die and
+//! begin anew with nothing ([`World::restart_server`]). An [`Event`] is what can happen to a pool in one step: a line of a script. Whatever it executed, a
+//! world gives account ([`World::gives_account`]): that is its invariant, and in the contract of each of these calls.
 //!
-//! [`every_run_gives_account`] is the theorem of the pool. Whatever list of events is done and whichever servers join or restart, each as the
-//! contracts of the proxy's and the servers' own calls say it, each client's bytes are its requests' answers in order, without gap; each server's executed
-//! commands are one history, which the abstract cache replays life by life; each answered command is once in its owner's history, and each lost one
-//! at most once. The statement is the record `Accounts` of `specs/Accounts.antt`, over places in the log of what was done
-//! (`specs/Logs.antt`) and histories (`mc_history`). What each event does is `specs/Courses.antt`, with one record for each in
-//! `specs/Pools.antt`.
+//! [`every_run_gives_account`] is the theorem of the pool. It holds for every list of events, whichever servers join or restart, if each event does what the
+//! contracts of the proxy's and the servers' own calls say. Each client's bytes are its requests' answers in order, without gap. Each server's executed
+//! commands are one history, which the abstract cache replays life by life. Each answered command is once in its owner's history, and each lost one at most
+//! once.
 //!
-//! Links are lost and come back in generations: bytes of a lost one may still arrive, and its server may still take what they
-//! ask, until it sees the end. [`courses_go_on`] says that where a pool is after all that was done (`CourseHolds`) is kept by each event.
+//! The statement is the record `Accounts` of `specs/Accounts.antt`, over places in the log (`specs/Logs.antt`) and histories (`mc_history`).
+//! `specs/Courses.antt` defines what each event does, with one record for each in `specs/Pools.antt`.
 //!
-//! [`Pool`] has a call for each event, over servers with their ways ([`Site`]): it does what the event's record says exactly where
-//! the event applies ([`Pool::applies`], `specs/Applies.antt`), and changes nothing else. What its calls rest on ([`courses_serve`]) holds wherever a course
-//! is. [`Pool::join`] lets a server join, or gives it back; [`Pool::restart`] puts a fresh one in the place of one. No call waits.
+//! A link is lost and comes up again in generations. Bytes of a lost generation may still arrive, and its server may still take the requests in them, until
+//! it sees the end. [`courses_go_on`] says that each event keeps the invariant of a pool with its log (`CourseHolds`).
+//!
+//! [`Pool`] has a call for each event, over servers with their ways ([`Site`]). The call does what the event's record says if and only if the event applies
+//! ([`Pool::applies`], `specs/Applies.antt`), and changes nothing else. The premises of its calls ([`courses_serve`]) follow from that invariant.
+//! [`Pool::join`] adds a server, or returns it with the cause; [`Pool::restart`] replaces one by a fresh one. No call waits.
 #![tactic(auto)]
 
 mod acts;

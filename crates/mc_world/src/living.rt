@@ -26,7 +26,7 @@ impl<S: Store + Drop> Pool<S> {
         }
     }
 
-    /// Bytes of the living generation arrive at a server, so many or all.
+    /// Bytes of the living generation arrive at a server: this number, or all.
     pub fn reach_server(&mut self, place: usize, count: usize) -> Result<Step, WorldError>
         requires serves { PoolServes self.old }
         ensures reaches { IfOk result (λ step. Does step (ReachesServer place count self.old self.new) (self.new ≡ self.old)) }
@@ -78,7 +78,7 @@ impl<S: Store + Drop> Pool<S> {
         Ok(Step::Done)
     }
 
-    /// Bytes of the living generation come back to the proxy, so many or all.
+    /// Bytes of the living generation arrive at the proxy: this number, or all.
     pub fn reach_proxy(&mut self, place: usize, count: usize) -> Result<Step, WorldError>
         ensures reaches { IfOk result (λ step. Does step (ReachesProxy place count self.old self.new) (self.new ≡ self.old)) }
         ensures applies { IfOk result (λ step. (step ≡ Step.Done) ↔ CanReachProxy place count self.old) }
@@ -138,7 +138,7 @@ impl<S: Store + Drop> Pool<S> {
         Ok(Step::Done)
     }
 
-    /// A link is back.
+    /// A link comes up again.
     pub fn return_link(&mut self, place: usize) -> Result<Step, WorldError>
         requires serves { PoolServes self.old }
         ensures returns { IfOk result (λ step. Does step (LinkReturns place self.old self.new) (self.new ≡ self.old)) }

@@ -11,7 +11,7 @@ impl<S: Store + Drop> Pool<S> {
     ghost use Rattle.mc_world.specs.Pools.{EndSeen, LateBytes, LateTurn};
     ghost use Rattle.mc_world.specs.Serving.{PoolServes};
 
-    /// Bytes of a lost generation arrive at its server, so many or all.
+    /// Bytes of a lost generation arrive at its server: this number, or all.
     pub fn late_bytes(
         &mut self,
         place: usize,
@@ -64,7 +64,7 @@ impl<S: Store + Drop> Pool<S> {
         Ok(Step::Done)
     }
 
-    /// A server sees the end of a lost generation. It takes no memory.
+    /// A server sees the end of a lost generation. The call takes no memory.
     pub fn see_end(&mut self, place: usize, generation: u64) -> Step
         requires serves { PoolServes self.old }
         ensures ends { Does result ((i : ℕ) × (h : EndSeen place i self.old self.new) × (h.ends.way.generation ≡ generation)) (self.new ≡ self.old) }

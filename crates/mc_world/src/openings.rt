@@ -46,7 +46,8 @@ pub(crate) fn opened_course<S: Store + Drop>(
     })
 }
 
-/// A proxy that has admitted so many clients, and whose links are all up with the first generation.
+/// A proxy that has admitted this number of clients, and whose links are all up with the first
+/// generation.
 fn opened_proxy(
     alloc: Global,
     ring: Ring,
@@ -134,7 +135,7 @@ fn opened_clients(alloc: Global, clients: usize) -> Result<Vec<Client>, WorldErr
     Ok(list)
 }
 
-/// So many stores without items.
+/// This number of stores without items.
 pub(crate) fn empty_stores(alloc: Global, count: usize) -> Result<Vec<ListStore>, WorldError>
     ensures empty { IfOk result (λ stores. stores.items ≡ replicate count []) }
     ensures only_memory { IsOkUnless result errors.Memory }

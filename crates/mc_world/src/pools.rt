@@ -57,14 +57,14 @@ impl<S: Store + Drop> Pool<S> {
         self.sites.as_slice()
     }
 
-    /// What was put out to a client and that it has not taken.
+    /// The bytes that were emitted to a client and that it has not taken.
     pub fn output(&self, client: u64) -> &[u8]
         ensures { result.now ≡ output_of (session_at self.now.proxy client) }
     {
         self.proxy.output(client)
     }
 
-    /// What the server of a place took in all its lives, in order: nothing where there is none.
+    /// What the server of a place took in all its lives, in order: empty if there is no server.
     pub fn history(&self, place: usize) -> &[Entry]
         ensures { result.now ≡ histories_of self.now.sites place }
     {
@@ -109,7 +109,7 @@ impl<S: Store + Drop> Pool<S> {
         Ok(Step::Done)
     }
 
-    /// The answer to the oldest unanswered request of a client is put out.
+    /// The answer to the oldest unanswered request of a client is emitted.
     pub fn put_answer(&mut self, client: u64) -> Result<Step, WorldError>
         ensures puts { IfOk result (λ step. Does step (PutsAnswer client self.old self.new) (self.new ≡ self.old)) }
         ensures applies { IfOk result (λ step. (step ≡ Step.Done) ↔ CanPutAnswer client self.old) }
@@ -127,7 +127,8 @@ impl<S: Store + Drop> Pool<S> {
         Ok(Step::Done)
     }
 
-    /// A client takes the first of the bytes that were put out to it, so many or all. It takes no memory.
+    /// A client takes the first of the bytes that were emitted to it: this number, or all. The call takes
+    /// no memory.
     pub fn client_takes(&mut self, client: u64, count: usize) -> Step
         ensures takes { Does result (TakesBytes client count self.old self.new) (self.new ≡ self.old) }
         ensures applies { (result ≡ Step.Done) ↔ CanTakeBytes client count self.old }
@@ -140,7 +141,7 @@ impl<S: Store + Drop> Pool<S> {
         Step::Done
     }
 
-    /// A client goes. It takes no memory.
+    /// A client goes. The call takes no memory.
     pub fn client_goes(&mut self, client: u64) -> Step
         ensures goes { Does result (ClientGoes client self.old self.new) (self.new ≡ self.old) }
         ensures applies { (result ≡ Step.Done) ↔ IsThere client self.old }

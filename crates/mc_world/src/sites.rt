@@ -18,15 +18,15 @@ pub struct Site<S: Store + Drop> {
     pub(crate) server: Server<S>,
     /// What it took in all its lives.
     pub(crate) history: Vec<Entry>,
-    /// How many of these it took before its life began.
+    /// How many entries of the history it took before its life began.
     pub(crate) begun: usize,
     /// The living generation, or the last that lived.
     pub(crate) generation: u64,
     /// The number of its connection.
     pub(crate) connection: u64,
-    /// How many commands the server took of it whose replies the proxy has not taken.
+    /// How many commands of the living generation the server took whose replies the proxy has not taken.
     pub(crate) ahead: usize,
-    /// The generations that were lost, and whose end the server has not seen.
+    /// The lost generations whose end the server has not seen.
     pub(crate) lost: Vec<Way>,
 }
 
@@ -76,14 +76,14 @@ impl<S: Store + Drop> Site<S> {
         self.history.as_slice()
     }
 
-    /// How many requests it took before its life began: each restart begins one.
+    /// How many requests it took before its life began: each restart begins a life.
     pub fn begun(&self) -> usize
         ensures { result ≡ self.now.begun }
     {
         self.begun
     }
 
-    /// How many commands the server took of the living generation whose replies the proxy has not taken.
+    /// How many commands of the living generation the server took whose replies the proxy has not taken.
     pub fn ahead(&self) -> usize
         ensures { result ≡ self.now.ahead }
     {
@@ -97,7 +97,7 @@ impl<S: Store + Drop> Site<S> {
         self.generation
     }
 
-    /// Whether a request of a connection has come whole.
+    /// Whether a whole request of a connection has arrived.
     pub(crate) fn has_request(&self, connection: u64) -> bool
         ensures { IsTrue result ↔ (0 < length (waiting_of (connection_at self.now.server connection))) }
     {
@@ -139,7 +139,8 @@ impl<S: Store + Drop> Site<S> {
         self.ahead -= 1;
     }
 
-    /// The server takes a request of the living generation, if one is whole: the command of this tag.
+    /// The server takes a request of the living generation, if a whole one has arrived: the command of
+    /// this tag.
     pub fn turn(&mut self, tag: Tag, moment: u64) -> Result<Step, WorldError>
         requires moment { moment < 2 ^ 63 }
         requires room { self.old.ahead < 2 ^ 64 - 1 }

@@ -1,4 +1,4 @@
-//! A server takes a request, and its history has it.
+//! A server takes a request, and its history records it.
 ghost use Rattle.std.specs.Prelude.{◌≡◌, ◌<◌, ◌+◌, ◌-◌, ◌^◌, ◌↔◌, length, IfOk, OnErr};
 ghost use Rattle.mc_server.specs.ServerState.{connection_at};
 ghost use Rattle.mc_server.specs.Turns.{waiting_of};
@@ -14,8 +14,9 @@ use mc_store::Store;
 use mc_text::Block;
 use std::alloc::Global;
 
-/// The server takes a request of a connection, if one is whole: the command of this tag. The history has it with the bytes that the server
-/// appended, which tell whether memory was refused. Its place and room for the bytes are reserved before the turn.
+/// The server takes a request of a connection, if a whole one has arrived: the command of this tag. The history records it with the bytes
+/// that the server appended, which show whether memory was refused. A place in the history and room for the bytes are reserved before the
+/// turn.
 pub(crate) fn serve<S: Store + Drop>(
     alloc: Global,
     server: &mut Server<S>,

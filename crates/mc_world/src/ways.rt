@@ -9,7 +9,7 @@ use std::alloc::{AllocError, Global};
 use std::collections::VecDeque;
 use std::marker::Model;
 
-/// A generation that was lost, and whose end its server has not seen.
+/// A lost generation whose end its server has not seen.
 #[derive(Drop)]
 pub struct Way {
     /// Which generation it is.
@@ -20,7 +20,7 @@ pub struct Way {
     bytes: Vec<u8>,
     /// How many of them have arrived.
     arrived: usize,
-    /// Whose the commands are that the server has not taken.
+    /// The tags of the commands that the server has not taken.
     untaken: VecDeque<Tag>,
 }
 
@@ -41,7 +41,7 @@ impl Model for Way {
 }
 
 impl Way {
-    /// A generation that was lost, with the bytes that are on their way and whose the commands are that were not taken.
+    /// A lost generation, with the bytes that are on their way and the tags of the commands that were not taken.
     pub(crate) fn new(
         generation: u64,
         connection: u64,
@@ -81,7 +81,7 @@ impl Way {
         going
     }
 
-    /// The first of them, so many or all.
+    /// The first of them: this number, or all.
     pub(crate) fn first(&self, count: usize) -> &[u8]
         ensures { result.now ≡ take count self.now.going }
     {
@@ -90,7 +90,7 @@ impl Way {
         piece
     }
 
-    /// The first of them, so many or all, have arrived.
+    /// The first of them have arrived: this number, or all.
     pub(crate) fn arrive(&mut self, count: usize)
         ensures { self.new ≡ record self.old { going = drop count self.old.going } }
     {
@@ -98,7 +98,7 @@ impl Way {
         self.arrived = let_go(&mut self.bytes, self.arrived + moved);
     }
 
-    /// Whose the command is that the server takes next.
+    /// The tag of the command that the server takes next.
     pub fn next(&self) -> Option<Tag>
         ensures { result ≡ slice_get self.now.untaken 0 }
     {
@@ -113,7 +113,7 @@ impl Way {
     }
 }
 
-/// The tags of the commands that wait on the link of a place, from a number on.
+/// The tags of the pending commands on the link of a place, from a number on.
 pub(crate) fn tags_from(
     alloc: Global,
     proxy: &Proxy,

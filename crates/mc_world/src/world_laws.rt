@@ -26,25 +26,25 @@ use mc_store::Store;
 use mc_text::Block;
 use std::alloc::Global;
 
-/// A pool that was just opened is where nothing was taken (`PoolHolds`): its links are up, and each server has taken nothing.
+/// A pool that was just opened holds with nothing taken (`PoolHolds`): its links are up, and each server has taken nothing.
 pub fn opening_pools_hold()
     ensures { (losses : Losses) (opening : CacheState) (ring : RingState) (clients : ℕ) → IsGoodCache opening
         → PoolHolds opening (λ _. []) (λ _. []) [] (λ _. fresh_lane 0) (opening_pool losses opening ring clients) }
 {}
 
-/// Where a course is after all that was done (`CourseHolds`) is kept by each event that is done.
+/// Each event that is done keeps the invariant of a course (`CourseHolds`).
 pub fn courses_go_on()
     ensures { (ring : RingState) (opening : CacheState) (event : Event (List ℕ)) (old new : CourseState)
         → CourseHolds ring opening old → IsDone event old new → CourseHolds ring opening new }
 {}
 
-/// Wherever a course is (`CourseHolds`), its servers serve its proxy, over each link and on each of its lost generations.
+/// In each course that holds (`CourseHolds`), the servers serve the proxy, over each link and on each lost generation.
 pub fn courses_serve()
     ensures { (ring : RingState) (opening : CacheState) (c : CourseState) → CourseHolds ring opening c → PoolServes c.pool }
 {}
 
-/// Whatever is done, in whatever order, and whichever servers join or restart: each client's bytes are its requests' answers in order,
-/// without gap; each server's executed commands are one history, which the abstract cache replays life by life; each answered command is once in its
+/// This holds of all events, in whatever order, and whichever servers join or restart. Each client's bytes are its requests' answers in order,
+/// without gap. Each server's executed commands are one history, which the abstract cache replays life by life. Each answered command is once in its
 /// owner's history, each lost one at most once. The owner is that of the moment at which the request was taken.
 pub fn every_run_gives_account()
     ensures { (losses : Losses) (ring : RingState) (clients budget items : ℕ) (calls : List Call) (c : CourseState) → IsRing ring → IsWithinBounds budget items
@@ -52,7 +52,7 @@ pub fn every_run_gives_account()
         → Account losses ring (opening_cache budget items 0) (text_of c) (put_out_of c) (history_of c) c.log }
 {}
 
-/// The same on public calls alone: for any ring, choice for lost commands, clients, bounds, stores and list of events, the world that took
+/// The theorem on public calls alone: for any ring, choice for lost commands, clients, bounds, stores and list of events, the world that executed
 /// them gives account.
 pub fn every_world_gives_account<S: Store + Drop>(
     alloc: Global,
@@ -75,9 +75,9 @@ pub fn every_world_gives_account<S: Store + Drop>(
     Ok(world)
 }
 
-/// Whatever was done, and whichever servers joined or restarted: where none of the events applies by which bytes move, turns are taken, answers are
-/// put out and ends are seen, the pool is quiet. Each request of each client that has not gone is answered, and nothing is left on any
-/// way. No client had 2^64 - 1 requests.
+/// A pool is quiet if no event applies that moves bytes, takes a turn, emits an answer or shows a server an end. This holds whatever was done, and
+/// whichever servers joined or restarted. In a quiet pool each request of each client that has not gone is answered, and nothing is left on any way.
+/// No client had 2^64 - 1 requests.
 pub fn nothing_is_stuck()
     ensures { (losses : Losses) (ring : RingState) (clients budget items : ℕ) (calls : List Call) (c : CourseState) → IsRing ring → IsWithinBounds budget items
         → Calls (opening_cache budget items 0) calls (world_opened losses ring clients budget items).course c

@@ -1,4 +1,4 @@
-//! The world: what is done to a pool, and its account.
+//! The world: a pool with the log of what was done to it, and its account.
 ghost use Rattle.std.specs.Prelude.{◌≡◌, ◌↔◌, ◌⊎◌, [], length, All, IfErr, IfOk, IsErrOf, OnOk, OnErr};
 
 use crate::clients::Client;
@@ -20,15 +20,15 @@ use std::marker::Model;
 pub const MAX_CLIENTS: usize = 1024;
 
 /// A proxy and its servers, the ways between them, their clients, and all that was done. Contracts see all of it, and that it gives
-/// account: each client's bytes are its requests' answers in order, each server's executed commands are one history, which the
-/// abstract cache replays life by life, each answered command is once in its owner's history, and each lost one at most once.
+/// account. Each client's bytes are its requests' answers in order. Each server's executed commands are one history, which the abstract
+/// cache replays life by life. Each answered command is once in its owner's history, and each lost one at most once.
 #[derive(Drop)]
 pub struct World<S: Store + Drop> {
     alloc: Global,
     pub(crate) course: Course<S>,
     /// The choice for lost commands.
     losses: Losses,
-    /// The ring at first: servers that joined are not in it.
+    /// The ring at the opening, without servers that joined later.
     opening: Ring,
     budget: u64,
     items: usize,
@@ -53,7 +53,7 @@ impl World<ListStore> {
     /// A world over plain lists in which nothing has happened: its clients are admitted, and all links are up with the first
     /// generation. The choice for lost commands is [`Losses::Told`].
     ///
-    /// `BadWorld` is answered for more than [`MAX_CLIENTS`] clients, and for bounds that no cache may have: 1 to 1,099,511,627,776
+    /// The call returns `BadWorld` for more than [`MAX_CLIENTS`] clients, and for bounds that no cache may have: 1 to 1,099,511,627,776
     /// bytes, and 1 to 16,777,216 items.
     pub fn new(
         alloc: Global,
@@ -87,11 +87,11 @@ impl<S: Store + Drop> World<S> {
     ghost use Rattle.mc_world.specs.Worlds.{cache_of, history_of, opening_world, put_out_of, text_of, world_opened};
 
     /// A world in which nothing has happened: its clients are admitted, and all links are up with the first generation. There is a
-    /// store for each server of the ring; each holds nothing, and may hold more items than the limit. The choice for
-    /// lost commands is [`Losses::Told`].
+    /// store for each server of the ring; each is empty, and may store more items than the limit. The choice for lost commands is
+    /// [`Losses::Told`].
     ///
-    /// `BadWorld` is answered for more than [`MAX_CLIENTS`] clients, for bounds that no cache may have, and for another number
-    /// of stores than of servers.
+    /// The call returns `BadWorld` for more than [`MAX_CLIENTS`] clients, for bounds that no cache may have, and if the number of
+    /// stores is not the number of servers.
     pub fn with_stores(
         alloc: Global,
         ring: Ring,
@@ -145,7 +145,7 @@ impl<S: Store + Drop> World<S> {
         })
     }
 
-    /// Does what an event says, where it applies. At `Memory` nothing has changed, and the event applies.
+    /// Executes an event if it applies. At `Memory` nothing has changed, and the event applies.
     pub fn step(&mut self, event: &Event<Block>) -> Result<Step, WorldError>
         ensures steps { IfOk result (λ step. StepsTo event.now step self.old.course self.new.course) }
         ensures opened { (self.new.opening ≡ self.old.opening) × (self.new.budget ≡ self.old.budget) × (self.new.items ≡ self.old.items) × (self.new.losses ≡ self.old.losses) }
@@ -157,7 +157,7 @@ impl<S: Store + Drop> World<S> {
         self.course.step(event).map_err(|_| WorldError::Memory)
     }
 
-    /// Does what events say, one after another, and gives how many were refused memory: those have changed nothing.
+    /// Executes events in sequence, and returns how many were refused memory: those have changed nothing.
     pub fn run(&mut self, events: &[Event<Block>]) -> usize
         ensures runs { RunsTo events.now self.old.course self.new.course result }
         ensures opened { (self.new.opening ≡ self.old.opening) × (self.new.budget ≡ self.old.budget) × (self.new.items ≡ self.old.items) × (self.new.losses ≡ self.old.losses) }
@@ -188,11 +188,11 @@ impl<S: Store + Drop> World<S> {
         let _ = self.opening.servers();
     }
 
-    /// A server over this store joins at the last place, which is given, with the bounds of the others; its link is up. A request
-    /// that was taken before keeps its owners, and no item moves.
+    /// Adds a server over this store at the last place, with the bounds of the others, and returns that place. Its link is up. A
+    /// request that was taken before keeps its owners, and no item moves.
     ///
-    /// `RingFull` is answered where the ring has 64 servers, else `AlreadyThere` where it has one of this address, else `Memory`
-    /// where there is none. Then nothing has changed, and the store is given back, as empty as it was.
+    /// The error is `RingFull` if the ring has 64 servers, else `AlreadyThere` if it has one of this address, else `Memory` if memory
+    /// is refused. Then nothing has changed, and the store is returned, as empty as it was.
     pub fn join_server(&mut self, address: Address, store: S) -> Result<usize, (WorldError, S)>
         requires empty { S.items store ≡ [] }
         requires room { HasRoom self.old.items (S.most store) }
@@ -211,11 +211,11 @@ impl<S: Store + Drop> World<S> {
         }
     }
 
-    /// The server of a place dies and begins anew over this store, with the bounds of the others. Its link is lost, if it was up; every
-    /// connection and every lost generation of it is gone with their bytes; its cache is empty, and numbers of items begin at 1.
+    /// The server of a place dies and begins anew over this store, with the bounds of the others. Its link is lost, if it was up. Each
+    /// of its connections and lost generations is gone with its bytes. Its cache is empty, and numbers of items begin at 1.
     ///
-    /// `NoServer` is answered where there is no server of this place, else `Memory` where there is none. Then nothing has changed, and
-    /// the store is given back, as empty as it was.
+    /// The error is `NoServer` if no server has this place, else `Memory` if memory is refused. Then nothing has changed, and the store
+    /// is returned, as empty as it was.
     pub fn restart_server(&mut self, server: usize, store: S) -> Result<(), (WorldError, S)>
         requires empty { S.items store ≡ [] }
         requires room { HasRoom self.old.items (S.most store) }
@@ -243,7 +243,7 @@ impl<S: Store + Drop> World<S> {
         }
     }
 
-    /// All that was put out to a client: what it took, and what it has not taken. When a client goes it takes all.
+    /// All bytes that were emitted to a client: those that it took, and those that it has not taken. A client that goes takes all.
     pub fn put_out(&self, client: u64) -> Result<Vec<u8>, WorldError>
         ensures put_out { IfOk result (λ bytes. bytes.items ≡ put_out_of self.now.course client) }
         ensures cause { IfErr result (λ e. e ≡ WorldError.Memory) }
@@ -259,7 +259,7 @@ impl<S: Store + Drop> World<S> {
         Ok(bytes)
     }
 
-    /// What the server of a place took in all its lives, in order: nothing where there is none.
+    /// What the server of a place took in all its lives, in order: empty if there is no server.
     pub fn history(&self, server: usize) -> &[Entry]
         ensures { result.now ≡ history_of self.now.course server }
     {

@@ -1,5 +1,5 @@
-"""A site of Django without a project of its own, for the scripts of this folder (Debian: python3-django): its caches, as an entry of CACHES gives
-them, and its sessions. The table of sessions is in memory.
+"""A site of Django without a project of its own, for the scripts of this folder (Debian: python3-django): its caches, as an entry of CACHES
+describes them, and its sessions. The table of sessions is in memory.
 """
 
 import importlib
@@ -24,12 +24,12 @@ with connection.schema_editor() as editor:
 
 
 def cache_of(backend, location, options, **others):
-    """The cache of an entry of CACHES: a class of Django's, where it connects to, its OPTIONS and other settings."""
+    """The cache of an entry of CACHES: a class of Django's, the address that it connects to, its OPTIONS and other settings."""
     path = f"django.core.cache.backends.memcached.{backend}"
     return CacheHandler({"default": {"BACKEND": path, "LOCATION": location, "OPTIONS": options, **others}})["default"]
 
 
 def session_of(engine, cache, key=None):
-    """A session of an engine, `cache` or `cached_db`, that is kept in a cache: a new one, or that of a key."""
+    """A session of an engine, `cache` or `cached_db`, which is kept in a cache: a new one, or that of a key."""
     caches["default"] = cache
     return importlib.import_module(f"django.contrib.sessions.backends.{engine}").SessionStore(key)

@@ -1,16 +1,16 @@
 #!/usr/bin/env python3
-"""Sees what others' clients show for keys of a server that has ended or is stopped. It also sees that clients which choose servers themselves agree
-with the proxy.
+"""Checks what third-party clients show for keys of a server that has ended or is stopped. It also checks that clients which choose servers
+themselves agree with the proxy.
 
 Usage: ended.py SERVER PROXY      (SERVER is the built mc_serverd, PROXY mc_proxyd)
 
 mc_proxyd is in front of two servers, with each of its choices of --lost. Each client stores through it. Then the second server ends, and each
-client asks again, for keys of the living server and for those of the other one. What it is to show is what docs/RUNNING.md says
-("Clients"). Before the end libmemcached's clients ask both servers themselves, without the proxy. Then the second server is stopped in
-another pool: with a --timeout below Django's, Django finds all keys of the living one; without it the proxy is given up, and it finds none.
+client asks again, for keys of the living server and for those of the other one. docs/RUNNING.md ("Clients") says what it should show. Before the
+end libmemcached's clients ask both servers themselves, without the proxy. Then the second server is stopped in another pool: with a --timeout below
+Django's, Django finds all keys of the living one; without it Django gives up on the proxy, and finds none.
 
-Which server owns a key is known from a model of the ring (tests/lib/rings.py). It prints a line for each call that gives something else;
-the last line is 'N passed, M failed'. Debian: python3-django, python3-pymemcache, python3-pylibmc, php-cli, php-memcached.
+A model of the ring shows which server owns a key (tests/lib/rings.py). The script prints a line for each call that returns something else; the last
+line is 'N passed, M failed'. Debian: python3-django, python3-pymemcache, python3-pylibmc, php-cli, php-memcached.
 """
 
 import itertools
@@ -56,14 +56,14 @@ def is_right(got, wanted):
 
 
 class Site:
-    """A proxy in front of two servers, and what it has as --lost. `told` says whether it tells losses."""
+    """A proxy in front of two servers, and its word for --lost. `told` says whether it reports losses."""
 
     def __init__(self, pool, lost):
         self.pool, self.lost, self.told, self.ring, self.port = pool, lost, lost == "told", pool.ring, pool.port
         self.place, self.address = (HOST, pool.port), f"{HOST}:{pool.port}"
 
     def names(self, place, count, beginning, form="{}"):
-        """So many names, of which a client makes keys that the server of a place owns."""
+        """This many names, of which a client makes keys that the server of a place owns."""
         named = (f"{beginning}-{self.lost}-{number}" for number in itertools.count())
         return list(itertools.islice((name for name in named if self.owner(form.format(name)) == place), count))
 
@@ -75,7 +75,7 @@ class Site:
         return [self.names(place, 1, beginning, form)[0] for place in (0, 1)]
 
     def ends(self):
-        """The second server ends, and the proxy has noticed it: a store is told either way."""
+        """The second server ends, and the proxy has noticed it: a store's loss is reported either way."""
         self.pool.servers[1].stop()
         with self.pool.connected() as client:
             put = stored(self.names(1, 1, "end")[0].encode())[0]
@@ -84,7 +84,7 @@ class Site:
                 client.sendall(put)
 
 
-# What each client stores, and after the first `yield` shows: the name of a call, the call, and what it is to give.
+# What each client stores, and after the first `yield` shows: the name of a call, the call, and its expected result.
 
 
 def of_pymemcache(site):
@@ -174,7 +174,7 @@ def of_django_over_pylibmc(site):
 
 
 def new_session(engine, cache, keys):
-    """A session that is begun now, and stored with its key in it. Django takes the next of these keys, until one can be stored."""
+    """A session that begins now, and is stored with its key in it. Django takes the next of these keys, until one can be stored."""
     store = session_of(engine, cache)
     store._get_new_session_key = iter(keys).__next__
     store.create()
@@ -266,7 +266,7 @@ CLIENTS = {
 
 
 def chosen_by_clients(site):
-    """A thousand keys that were stored through the proxy, and are got from the servers by clients that choose themselves."""
+    """A thousand keys that were stored through the proxy, and that clients which choose themselves get from the servers."""
     keys = [f"c{number}" for number in range(MANY)]
     with site.pool.connected() as client:
         for key in keys:
@@ -311,7 +311,7 @@ def with_timeouts(site, finds):
 
 
 def passes(name, row):
-    """Makes a call, and prints a line if it gives something else."""
+    """Makes a call, and prints a line if its result is another."""
     call = Call(f"{name}: {row[0]}", *row[1:])
     got = call.outcome()
     if is_right(got, call.wanted):
@@ -321,7 +321,7 @@ def passes(name, row):
 
 
 def checks(lost):
-    """Whether each call with one choice of --lost gave what it is to give."""
+    """Whether each call with one choice of --lost had its expected result."""
     with Pool(["--lost", lost]) as pool:
         site = Site(pool, lost)
         yield from (passes(lost, row) for row in chosen_by_clients(site))
@@ -334,7 +334,7 @@ def checks(lost):
 
 
 def checks_of_timeouts():
-    """The same with a server that is stopped, and a --timeout of the proxy or none."""
+    """Likewise with a server that is stopped, and a --timeout of the proxy or none."""
     for timeout, finds in (("300", True), ("0", False)):
         with Pool(["--timeout", timeout]) as pool:
             yield from (passes(f"--timeout {timeout}", row) for row in with_timeouts(Site(pool, "told"), finds))

@@ -1,5 +1,5 @@
 #!/usr/bin/env perl
-# Asks a proxy of which one server is gone, by Perl's Cache::Memcached or Cache::Memcached::Fast, and prints what it was given as JSON:
+# Asks a proxy one of whose servers is gone, by Perl's Cache::Memcached or Cache::Memcached::Fast, and prints the results as JSON:
 # see lost.py.
 #
 # Usage: lost.pl KIND PLAN
@@ -17,7 +17,7 @@ my $client = $kind->new({ servers => [$server] });
 my %counts = map { $_ => 0 } @{ $plan->{counts} };
 my ($least, $slowest) = (scalar @{ $plan->{living} }, 0);
 
-# What a call gives, with the time that it took noted.
+# The result of a call; the time that it took is noted.
 sub timed {
     my ($call) = @_;
     my $begun = time;
@@ -26,7 +26,7 @@ sub timed {
     return $given;
 }
 
-# What a get of a key gave: its value, another one, or nothing. Neither client says whether nothing was a miss.
+# The result of a get of a key: its value, another one, or nothing. Neither client says whether nothing was a miss.
 sub said {
     my ($key) = @_;
     my $value = timed(sub { $client->get($key) });

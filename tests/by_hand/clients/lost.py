@@ -1,22 +1,22 @@
 #!/usr/bin/env python3
-"""Sees what others' clients are given by a proxy of which one of two servers is gone: killed, stopped, or cut off from the network.
+"""Checks what third-party clients get from a proxy one of whose two servers is gone: killed, stopped, or cut off from the network.
 
 Usage: lost.py SERVER PROXY [--rounds N] [--only TEXT]      (SERVER is the built mc_serverd, PROXY mc_proxyd; 100 rounds; TEXT is in the names of
                                                            the proxies, the faults or the clients to try)
 
-Each proxy is in front of two servers, each of which has 12 keys of a page. Then the second server is lost, and a client of a library of its
-own goes in rounds: it stores a key of the lost server as its default is, which is with `noreply` for some, and then gets a key of the
-living server and one of the lost; in each tenth round it gets all 24 at once. Proxies are mc_proxyd with either of its policies, and
-Debian's nutcracker without auto_eject_hosts and with it; one that is not installed is said and left out. It prints a table:
+Each proxy is in front of two servers, each of which has 12 keys of a page. Then the second server is lost, and a client of a library of its own
+goes in rounds. In a round it stores a key of the lost server as its default is, which is with `noreply` for some, and then gets a key of the
+living server and one of the lost; in each tenth round it gets all 24 at once. Proxies are mc_proxyd with either of its policies, and Debian's
+nutcracker without auto_eject_hosts and with it; one that is not installed is reported and left out. It prints a table:
 
 - *living*: of the gets of living keys how many gave the value; then how many gave none, failed, or gave another key's value;
-- *lost*: likewise of the lost keys (a value is theirs only where the proxy gave the key to another server);
+- *lost*: likewise of the lost keys (a value is theirs only if the proxy gave the key to another server);
 - *pages*: of how many of 12 living keys the poorest page showed the value; then how many pages failed or had a wrong value;
-- *stored*: how many stores of lost keys the client said to be done, of those without `noreply`;
+- *stored*: how many stores of lost keys the client reported as done, of those without `noreply`;
 - *slowest*: the longest call in seconds.
 
 A row of mc_proxyd with `--lost missed` passes if no living get gave anything but its value, each lost key missed, each page showed all
-that the living server holds, and no store was said to be done. The last line is 'N passed, M failed', in such rows.
+items of the living server, and no store was reported as done. The last line is 'N passed, M failed', in such rows.
 All run in network namespaces of their own (tests/lib/network.py says what that needs). Debian: python3-pymemcache, python3-pylibmc, php-cli,
 php-memcached, libcache-memcached-perl, libcache-memcached-fast-perl, nutcracker.
 """
@@ -41,7 +41,7 @@ from servers import Listener, Proxy, Server, address_on, free_port
 
 HERE = pathlib.Path(__file__).parent
 NUTCRACKER = shutil.which("nutcracker", path=os.environ["PATH"] + ":/usr/sbin")
-TIMEOUT = "400"  # milliseconds until a proxy gives a server up
+TIMEOUT = "400"  # milliseconds until a proxy gives up on a server
 SECONDS = 120  # of a client's rounds
 KEYS_AT_A_SERVER = 12
 COUNTS = [f"{what} {said}" for what in ("living", "lost") for said in ("right", "missed", "raised", "wrong")]
@@ -93,7 +93,7 @@ class Nutcracker(Listener):
 
 
 def proxies(program):
-    """Each proxy by its name: what starts it on a host, in front of servers of these addresses."""
+    """Each proxy by its name: the function that starts it on a host, in front of servers of these addresses."""
 
     def mc_proxyd(*words):
         return lambda addresses, on: Proxy(program, addresses, ["--timeout", TIMEOUT, *words], on=on, stderr=subprocess.DEVNULL)
@@ -170,7 +170,7 @@ class Site:
             self.network.wire(*way, wire)
 
     def asked_by(self, client, rounds, living, lost):
-        """What a client was given."""
+        """The results of a client."""
         plan = {"host": self.near.address, "port": self.proxy.port, "living": living, "lost": lost, "rounds": rounds, "counts": COUNTS}
         program, script, kind = CLIENTS[client]
         words = [*self.near.entering(), program, str(HERE / script), kind, json.dumps(plan)]
@@ -187,7 +187,7 @@ FAULTS = {"killed": Site.is_killed, "stopped": Site.is_stopped, "cut off": Site.
 
 
 def row_of(given, rounds, unanswered):
-    """What a client was given, in columns."""
+    """The results of a client, in columns."""
     if given is None:
         return [f"no end in {SECONDS} seconds", "", "", "", ""]
 

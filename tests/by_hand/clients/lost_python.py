@@ -1,5 +1,5 @@
 #!/usr/bin/env python3
-"""Asks a proxy of which one server is gone, by pymemcache or pylibmc, and prints what it was given as JSON: see lost.py.
+"""Asks a proxy one of whose servers is gone, by pymemcache or pylibmc, and prints the results as JSON: see lost.py.
 
 Usage: lost_python.py KIND PLAN
 """
@@ -36,7 +36,7 @@ def text_of(value):
 
 
 class Trial:
-    """What a client was given, counted."""
+    """The results of a client, counted."""
 
     def __init__(self, plan, client):
         self.plan, self.client = plan, client

@@ -1,15 +1,15 @@
 #!/usr/bin/env bash
 # Tries others' clients on a server, call by call: pymemcache, pylibmc, Django's cache and sessions, PHP's Memcached and
-# sessions, the programs of libmemcached, nutcracker, a proxy, and those that are to be turned away: dalli, which speaks
+# sessions, the programs of libmemcached, nutcracker, a proxy, and those that must be rejected: dalli, which speaks
 # the binary protocol alone in Debian's package, and curl.
 #
 # Usage: run.sh SERVER [--through PROXY] [--beside MEMCACHED]      (SERVER is the built mc_serverd, PROXY mc_proxyd)
 #
-# Each script starts servers of its own on free ports of 127.0.0.1 and compares what each call gives with what it is to
-# give. A call that memcached answers otherwise names the line of docs/PROTOCOL.md that says so. With --through the calls are
-# made to proxies in the servers' places, each in front of two servers, and are to give the same. With --beside they are made
-# to Debian's memcached as well: there the others have to give the same, and these something else. A client that is not
-# installed is said and left out. The last line is 'N passed, M differ as documented, K failed'.
+# Each script starts servers of its own on free ports of 127.0.0.1 and compares the result of each call with the expected
+# one. A call that memcached answers otherwise names the line of docs/PROTOCOL.md that says so. With --through the calls are
+# made to proxies in the servers' places, each in front of two servers, and must have the same results. With --beside they are
+# made to Debian's memcached as well: there these calls must have another result, and the others the same. A client that is not
+# installed is reported and left out. The last line is 'N passed, M differ as documented, K failed'.
 set -u
 shopt -s lastpipe
 if [ $# -eq 0 ] || ! [ -x "$1" ]; then
@@ -21,7 +21,7 @@ passed=0
 documented=0
 failed=0
 
-# The first of the Pythons that has a module. (Debian's packages are seen by its own alone.)
+# The first of the Pythons that has a module. (Only Debian's own Python sees its packages.)
 python_with() {
     local python
     for python in python3 /usr/bin/python3; do
@@ -30,7 +30,7 @@ python_with() {
     return 1
 }
 
-# Runs a script and prints what it writes, but its last line, whose counts are added.
+# Runs a script and prints its output, except its last line, whose counts are added.
 add() {
     local counts='' line status
     echo "== ${2##*/}, by $1"

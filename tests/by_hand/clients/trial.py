@@ -1,13 +1,13 @@
-"""What the scripts of this folder share: calls of a client, what each is to give, and the count of those that gave it.
+"""The common part of the scripts of this folder: calls of a client, their expected results, and the count of those that had them.
 
-A script has a generator of its calls. It is given two servers (`Server` of tests/lib/servers.py), and yields for each call its
-name, the call as a function without parameters, and what it is to give; where memcached gives something else, also a piece
-of the line of docs/PROTOCOL.md that says so ("Where we differ from memcached 1.6"). A call is made before the next is
-asked for, so a later one finds what an earlier one left.
+A script has a generator of its calls. It gets two servers (`Server` of tests/lib/servers.py), and yields for each call its name,
+the call as a function without parameters, and its expected result; if memcached has another result, also a piece of the line of
+docs/PROTOCOL.md that says so ("Where we differ from memcached 1.6"). A call is made before the next is asked for, so a later one
+finds what an earlier one left.
 
-`main` plays the generator to two servers that it starts, and to two of memcached where `--beside` names it. Then each call
-without such a piece has to give the same there, and each with one has to give something else. Where `--through` names a proxy, the
-calls are given two of it in the servers' places, each in front of two servers: they are to give the same.
+`main` plays the generator to two servers that it starts, and to two of memcached if `--beside` names it. Then each call without
+such a piece must have the same result there, and each with one another result. If `--through` names a proxy, the calls get two of
+it in the servers' places, each in front of two servers: they must have the same results.
 """
 
 import argparse
@@ -33,7 +33,7 @@ class Raises(NamedTuple):
 
 
 def is_as(got, wanted):
-    """Whether a call gave what was wanted: the same value of the same type, or an exception as described."""
+    """Whether a call had the expected result: the same value of the same type, or an exception as described."""
     if isinstance(wanted, Raises):
         return isinstance(got, Raises) and got.name == wanted.name and wanted.text in got.text
     return type(got) is type(wanted) and got == wanted
@@ -53,7 +53,7 @@ class Call(NamedTuple):
 
 
 class Tally:
-    """How many calls gave what they are to give. A failure is printed at once; what differs as documented, by its line."""
+    """How many calls had their expected results. A failure is printed at once; a documented difference, by its line."""
 
     def __init__(self):
         self.passed = self.failed = 0
@@ -66,7 +66,7 @@ class Tally:
             print(f"       {line}")
 
     def count(self, call, got, beside):
-        """Counts a call by what it gave; `beside` is a list of what it gave on memcached, empty where none runs."""
+        """Counts a call by its result; `beside` is a list of its result on memcached, empty if none runs."""
         line = line_of(call.differs) if call.differs else ""
         theirs = [f"memcached gives {shortened(each)}" for each in beside]
         if not is_as(got, call.wanted):
@@ -89,7 +89,7 @@ class Tally:
 
 
 def line_of(piece):
-    """Where docs/PROTOCOL.md tells of a difference: the number and the first words of the line that has this piece."""
+    """The line of docs/PROTOCOL.md that documents a difference: the number and the first words of the line that has this piece."""
     inside = False
     for number, line in enumerate(PROTOCOL.read_text().splitlines(), 1):
         inside = line == SECTION if line.startswith("## ") else inside
@@ -104,7 +104,7 @@ def shortened(value, most=100):
 
 
 def gave(calls, program, proxy=None):
-    """Plays the calls to two servers, or to two proxies in front of two each: each call with what it gave."""
+    """Plays the calls to two servers, or to two proxies in front of two each: each call with its result."""
     with contextlib.ExitStack() as stack:
 
         def server():

@@ -1,7 +1,7 @@
 #!/usr/bin/env python3
-"""Tries curl, which speaks HTTP, on a server: it is turned away whatever its method, and nothing of it is done (Debian: curl).
+"""Tries curl, which speaks HTTP, on a server: it is rejected whatever its method, and nothing of it is done (Debian: curl).
 
-It is printed how many seconds each call of curl took until it knew.
+It prints how many seconds each call of curl took until it knew.
 """
 
 import pathlib
@@ -39,7 +39,7 @@ def held(port):
 
 
 def call(port, body, words):
-    """What curl says of a request, and what is held after it."""
+    """The status that curl reports of a request, and the item that is stored after it."""
     words = [word.format(body=body) for word in words]
     begun = time.monotonic()
     done = subprocess.run(["curl", "-sS", *words, f"http://127.0.0.1:{port}/"], capture_output=True, timeout=60)

@@ -1,8 +1,8 @@
 #!/usr/bin/env python3
 """Tries Ruby's dalli on a server (Debian: ruby, ruby-dalli).
 
-Debian's dalli 3.0.6 has the binary protocol alone, whatever `protocol` says, so it is turned away. Later ones speak meta commands with
-`protocol: :meta`; of these nothing is tried here.
+Debian's dalli 3.0.6 has the binary protocol alone, whatever `protocol` says, so it is rejected. Later ones speak meta commands with
+`protocol: :meta`; nothing of these is tried here.
 """
 
 import subprocess
@@ -24,7 +24,7 @@ end
 
 
 def shown(port, options):
-    """The last line that it prints: dalli's log comes before."""
+    """The last line that it prints: dalli's log is before it."""
     words = ["ruby", "-W0", "-e", CALL % options, str(port)]
     done = subprocess.run(words, stdout=subprocess.PIPE, stderr=subprocess.DEVNULL, text=True, timeout=60)
     return done.stdout.splitlines()[-1]

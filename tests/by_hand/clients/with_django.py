@@ -3,7 +3,7 @@
 
 Each call of the cache is made with each of Django's two classes for memcached, without OPTIONS, with those that docs/RUNNING.md names, and with
 those that Django's own page shows (a pool of pymemcache; pylibmc's ketama over two servers). Sessions are kept in the cache alone, or in a
-database too. ended.py has what they show for a server that has ended.
+database too. ended.py has the results for a server that has ended.
 """
 
 import itertools
@@ -29,7 +29,7 @@ MONTHS = 3600 * 24 * 60  # seconds, more than memcached counts from now
 
 
 def each(kind, rows):
-    """The rows with the kind of cache in front of each name."""
+    """The calls with the kind of cache in front of each name."""
     for row in rows:
         yield (f"{kind}: {row[0]}", *row[1:])
 
@@ -60,7 +60,7 @@ def values_of_python(cache):
 
 
 def counts(cache, of_a_text):
-    """`of_a_text` is what `incr` of a text gives."""
+    """`of_a_text` is the result of `incr` of a text."""
     missing = Raises("ValueError", "not found")
     yield "incr of a key that is not held", lambda: cache.incr("n"), missing
     yield "decr of a key that is not held", lambda: cache.decr("n"), missing
@@ -98,7 +98,7 @@ def versions(cache):
 
 
 def too_large(cache, refused, is_deleted):
-    """`refused` is what a set that is too large gives, and `is_deleted` whether Django deletes the older value then."""
+    """`refused` is the result of a set that is too large, and `is_deleted` whether Django deletes the older value then."""
     yield "set of a small value", lambda: cache.set("l", "small"), None
     yield "set that is too large", lambda: cache.set("l", LARGE), refused
     yield "get of the older value", lambda: cache.get("l"), None if is_deleted else "small", "" if is_deleted else OLDER_STAYS
@@ -110,7 +110,7 @@ def ends(cache):
 
 
 def expires(cache, stays):
-    """`stays` is what `timeout=0` and a later `get` give, with a line of docs/PROTOCOL.md."""
+    """`stays` is the result of `timeout=0` and a later `get`, with a line of docs/PROTOCOL.md."""
     keys = ["second", "none", "months", "moment", "touched", "kept"]
     yield "set for a second", lambda: cache.set("second", 1, 1), None
     yield "set for ever", lambda: cache.set("none", 2, None), None
@@ -125,7 +125,7 @@ def expires(cache, stays):
 
 
 def prefixed(backend, address, options):
-    """What is written with other settings of the entry is read with them, and is stored under the key that Django's page tells of."""
+    """A value that is written with other settings of the entry is read with them, and is stored under the key that Django's page describes."""
     cache = cache_of(backend, address, options, KEY_PREFIX="site", VERSION=3, TIMEOUT=2)
     plain = cache_of(backend, address, options, KEY_FUNCTION=lambda key, prefix, version: key)
     yield "KEY_PREFIX and VERSION: set and get", lambda: (cache.set("a", "x"), cache.get("a")), (None, "x")

@@ -1,8 +1,8 @@
 #!/usr/bin/env python3
 """Tries a proxy in front of two servers: nutcracker (Debian: nutcracker), asked by pymemcache (python3-pymemcache).
 
-The proxy spreads keys over both servers by ketama, passes on what it is sent, and puts what both answer to one request
-together. What it takes no part in (`version`, `flush_all`, `stats`) is not asked.
+The proxy spreads keys over both servers by ketama, forwards what it receives, and joins both servers' answers to one
+request. Requests that it does not support (`version`, `flush_all`, `stats`) are not sent.
 """
 
 import itertools

@@ -1,8 +1,8 @@
 #!/usr/bin/env python3
-"""Tries PHP's sessions on a server as Debian's packages set them, in the binary protocol: they are turned away (Debian: php-cli,
+"""Tries PHP's sessions on a server as Debian's packages set them, in the binary protocol: they are rejected (Debian: php-cli,
 php-memcached).
 
-It is printed after how many seconds PHP said so. with_php.py has sessions in the text protocol.
+It prints after how many seconds PHP said so. with_php.py has sessions in the text protocol.
 """
 
 import json

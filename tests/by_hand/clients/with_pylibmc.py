@@ -2,7 +2,7 @@
 """Tries each call that pylibmc has on a server, in the text protocol (Debian: python3-pylibmc).
 
 pylibmc is over libmemcached. Its calls are made with its ordinary settings, and again with others that change what is
-sent: no blocking, calls that are kept until they are a bufferful, no replies, keys spread over two servers by ketama.
+sent: no blocking, calls that are kept until a buffer is full, no replies, keys spread over two servers by ketama.
 """
 
 import contextlib
@@ -24,7 +24,7 @@ MEGABYTE = 1048576
 
 
 def each(kind, rows):
-    """The rows with the kind of client in front of each name."""
+    """The calls with the kind of client in front of each name."""
     for row in rows:
         yield (f"{kind}: {row[0]}", *row[1:])
 
@@ -158,7 +158,7 @@ def of_client_alone(client, port):
 
 
 def buffered(client):
-    """Stores that are kept back until something is asked. pylibmc says of each that it failed: error 32 is `BUFFERED`."""
+    """Stores that are kept back until something is asked. pylibmc reports each as failed: error 32 is `BUFFERED`."""
 
     def set_each(numbers):
         for number in numbers:

@@ -2,7 +2,7 @@
 """Tries each call that pymemcache has on a server (Debian: python3-pymemcache).
 
 The calls of Client are made on Client, and those that the others have on PooledClient and HashClient too: HashClient over
-one server, and with pools over two. What a version of pymemcache does not have is said and left out.
+one server, and with pools over two. A call that a version of pymemcache does not have is reported and left out.
 """
 
 import itertools
@@ -35,7 +35,7 @@ VERSION = "| `version` is always"
 
 
 def each(kind, rows):
-    """The rows with the kind of client in front of each name."""
+    """The calls with the kind of client in front of each name."""
     for row in rows:
         yield (f"{kind}: {row[0]}", *row[1:])
 
@@ -119,7 +119,7 @@ def many(client):
 
 
 def unanswered(client):
-    """With noreply. What they did is seen by calls that are answered: on one connection they come after."""
+    """Calls with noreply. Calls that are answered show what they did: on one connection they are executed later."""
     yield "set, noreply", lambda: client.set("u", "x", noreply=True), True
     yield "add, noreply", lambda: client.add("u", "y", noreply=True), True
     yield "append, noreply", lambda: client.append("u", "b", noreply=True), True
@@ -157,7 +157,7 @@ def expires(client):
     yield "get 2 seconds later", lambda: time.sleep(2.1) or client.get_many(["e", "f", "g"]), {"f": b"x"}
     yield "flush_all in 3 seconds", lambda: client.flush_all(delay=3), True
     yield "get at once", lambda: client.get("f"), b"x"
-    # A second more, since memcached loses what is stored in the second of its flush, by a clock that may be late.
+    # A second more, since memcached loses items that are stored in the second of its flush, by a clock that may be late.
     yield "get 4 seconds later", lambda: time.sleep(4.1) or client.get("f"), None
 
 
@@ -235,7 +235,7 @@ def of_later_versions(client):
 
 
 def with_options(address):
-    """Clients that make their bytes otherwise: prefixes, pickles, keys and values that are no ASCII, retries."""
+    """Clients that make their bytes in other ways: prefixes, pickles, keys and values that are no ASCII, retries."""
     prefixed = Client(address, default_noreply=False, key_prefix=b"p:")
     plain = Client(address, default_noreply=False, timeout=5, no_delay=True)
     yield "key_prefix: set", lambda: prefixed.set("a", "x"), True

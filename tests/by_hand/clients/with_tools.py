@@ -2,7 +2,7 @@
 """Tries the programs of libmemcached on a server, in the text protocol (Debian: libmemcached-tools).
 
 memccapable's tests of the text protocol are run twice: straight, and through a relay that makes `version` of
-`version foo bar` and `version noreply`, by which many of them look whether the server still answers.
+`version foo bar` and `version noreply`, by which many of them check whether the server still answers.
 """
 
 import pathlib
@@ -27,12 +27,13 @@ STORAGE = [f"{name}{end}" for name in "set add replace cas append prepend".split
 OTHERS = [f"{name}{end}" for name in "flush delete incr decr".split() for end in ("", " noreply")]
 TESTS = ["version", "quit", "get", "gets", "mget", *STORAGE, *OTHERS, "verbosity", "stat"]
 NOT_TAKEN = {"verbosity", "stat"}
-# These ask `version` with further words, and want the version; `quit` asks `quit` with further words, and wants an error.
+# These ask `version` with further words, and expect the version; `quit` asks `quit` with further words, and expects an
+# error.
 ASK_WITH_WORDS = {"quit", "version", "set", "add", "replace", "cas"} | {name for name in TESTS if name.endswith(" noreply")}
 
 
 class Relay:
-    """Holds between a client and a server on a port of its own, and takes the further words off `version`."""
+    """Stands between a client and a server on a port of its own, and removes the further words of `version`."""
 
     def __init__(self, port):
         self.server_port = port
@@ -51,7 +52,7 @@ class Relay:
             threading.Thread(target=self.pass_on, args=(server, client), daemon=True).start()
 
     def pass_on(self, source, target):
-        """Passes pieces on until one side ends. (memccapable sends each line as one piece.)"""
+        """Forwards pieces until one side ends. (memccapable sends each line as one piece.)"""
         try:
             while piece := source.recv(65536):
                 target.sendall(re.sub(rb"^version [a-z ]*\r\n$", b"version\r\n", piece))
@@ -67,13 +68,13 @@ class Relay:
 
 
 def run(*words):
-    """A program's exit status and what it wrote, as text."""
+    """A program's exit status and its output, as text."""
     done = subprocess.run(words, capture_output=True, timeout=60)
     return done.returncode, (done.stdout + done.stderr).decode("latin-1")
 
 
 def capable(port):
-    """memccapable's tests of the text protocol, one by one: status 0 where the test passed."""
+    """memccapable's tests of the text protocol, one by one: status 0 if the test passed."""
 
     def status(port, name):
         return run("memccapable", "-h", "127.0.0.1", "-p", str(port), "-a", "-t", "2", "-T", f"ascii {name}")[0]
@@ -126,7 +127,7 @@ def tells(servers, port):
 
 
 def loads(servers, port):
-    """Programs that load a server: they tell of errors, not of times."""
+    """Programs that load a server: they report errors, not times."""
 
     def slap(*words):
         status, written = run("memcslap", servers, "--concurrency", "4", "--execute-number", "1000", *words)

@@ -14,7 +14,7 @@ use Rattle.mc_pool_laws.proofs.one_map_needs.restarted_servers_are_not_one_map.G
 both : ArePlainSteps (opening_cache 1000 10 0) (commands_of (command_at restart_order) restart_history)
 both = (record { of_map = refl; answered = refl; kept = refl }, (record { of_map = refl; answered = refl; kept = refl }, tt))
 
--- how long the second reply is
+-- the length of the second reply
 abbrev second_size : List (List ℕ) → ℕ
 second_size [] = 0
 second_size (first ∷ []) = 0

@@ -2,7 +2,7 @@ use Rattle.std.proofs.Common.{◌≡◌, ◌-◌, ◌≤◌, ◌++◌, length, t
 use Rattle.mc_script.specs.Escapes.{escaped}
 use Rattle.mc_script.proofs.escapes.push_each_escaped.Given as goal
 
--- the bytes so far are put, escaped
+-- the bytes so far are appended, escaped
 abbrev pub invariant-loop-done : goal.invariant-loop-done
 invariant-loop-done l = (l.done ≤ length l.bytes) × (l.out.items ≡ l.fn.out.items ++ escaped (take l.done l.bytes))
 

@@ -3,7 +3,7 @@ use Rattle.mc_script.specs.declared.errors.SimError.{SimError}
 use Rattle.mc_script.specs.declared.errors.SimError.TheVariants.{BadLine}
 use Rattle.mc_script.proofs.texts.text_of_script.Goals as goal
 
--- what `read_script` answered is answered
+-- the error of `read_script` is returned
 pub returns-in_err-script-clause-bad_line : goal.returns-in_err-script-clause-bad_line
 returns-in_err-script-clause-bad_line g c line =
     let error : SimError = c.in_err-script.field-0.0 in

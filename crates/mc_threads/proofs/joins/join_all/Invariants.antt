@@ -4,7 +4,7 @@ use Rattle.std.specs.PromisedHandle.{KeepsAt}
 use Rattle.mc_threads.specs.Causes.{IsLeast}
 use Rattle.mc_threads.proofs.joins.join_all.Given as goal
 
--- the first so many workers were joined, in order; of their causes the least is known
+-- the workers so far were joined, in order; the least of their causes is known
 abbrev pub invariant-loop-child : goal.invariant-loop-child
 invariant-loop-child g l = record {
   count : vec_len l.results + into_iter_len l.child-iterator ≡ into_iter_len l.initial.child-iterator;

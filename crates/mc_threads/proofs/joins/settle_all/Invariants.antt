@@ -4,7 +4,7 @@ use Rattle.mc_threads.specs.Starts.{HasSettled}
 use Rattle.mc_threads.specs.declared.links.Ends.{Ends}
 use Rattle.mc_threads.proofs.joins.settle_all.Given as goal
 
--- the rings of the first so many workers have met, and each clock was kept; the others' rings are as they were
+-- the rings of the workers so far have met, and each clock was kept; the others' rings are as they were
 abbrev pub invariant-loop-joined : goal.invariant-loop-joined
 invariant-loop-joined g l = record {
   ends : vec_len l.ends ≡ vec_len l.fn.results;

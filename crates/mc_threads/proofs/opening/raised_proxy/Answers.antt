@@ -27,7 +27,7 @@ loop-place-preserved c =
     ∙ ap (λ (ls : List LinkState). record { losses = Told; ring = c.args.ring; sessions = []; admitted = 0; links = ls })
     (raised-next place many inside ∙ ap (λ (n : ℕ). raised n many) next)
 
--- and at the end all are
+-- at the end all links are up
 pub returns : goal.returns
 returns c =
     let many = length c.args.ring.servers in

@@ -4,7 +4,7 @@ use Rattle.mc_threads.specs.Starts.{Each2}
 use Rattle.mc_threads.specs.Talks.{HasCarried}
 use Rattle.mc_threads.proofs.rounds.carry_all.Given as goal
 
--- the rings are the same at each place
+-- the rings stay at each place
 abbrev pub invariant-loop-place : goal.invariant-loop-place
 invariant-loop-place l = record {
   ends : vec_len l.ends ≡ vec_len l.initial.ends;

@@ -4,7 +4,7 @@ use Rattle.mc_threads.specs.Starts.{Each2}
 use Rattle.mc_threads.specs.Talks.{HasQuit, went_to}
 use Rattle.mc_threads.proofs.rounds.close_all.Given as goal
 
--- the rings are the same at each place, and the first servers were sent `quit`
+-- the rings stay at each place, and the first servers were sent `quit`
 abbrev pub invariant-loop-place : goal.invariant-loop-place
 invariant-loop-place g l = record {
   ends : vec_len l.ends ≡ vec_len l.initial.ends;

@@ -3,7 +3,7 @@ use Rattle.rtrb.specs.Ring.{sent, received}
 use Rattle.mc_threads.specs.Links.{SameEnds}
 use Rattle.mc_threads.proofs.rounds.close_one.Given as goal
 
--- the rings are the same, and no byte was moved
+-- the rings stay, and no byte was moved
 abbrev pub invariant-rounds : goal.invariant-rounds
 invariant-rounds g l = record {
   rings : SameEnds l.initial.ends l.ends;

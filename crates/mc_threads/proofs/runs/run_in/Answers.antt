@@ -90,7 +90,7 @@ returns-clause-account g c =
           (at (map g.C.Clock.times c.in_ok-clocks.clocks.items) server) bytes (came_from ends server) w.0) (ended.quit server low) w.1,
     ))
 
--- where a worker ended by a shut gate, its gate refused it
+-- if a worker ended by a shut gate, its gate refused it
 pub returns-in_err-join_all-clause-cause : goal.returns-in_err-join_all-clause-cause
 returns-in_err-join_all-clause-cause g c =
     let results = c.join_all.new.results.items in

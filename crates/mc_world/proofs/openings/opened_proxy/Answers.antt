@@ -26,7 +26,7 @@ loop-place-preserved c =
     ∙ ap (λ (ls : List LinkState). record { losses = c.args.losses; ring = c.args.ring; sessions = []; admitted = 0; links = ls })
     (raised-next place many inside ∙ ap (λ (n : ℕ). raised n many) next)
 
--- and at the end all are
+-- at the end all links are up
 pub loop-init : goal.loop-init
 loop-init c =
     let many = length c.args.ring.servers in
@@ -35,7 +35,7 @@ loop-init c =
     c.loop-place.invariant
     ∙ ap (λ (ls : List LinkState). record { losses = c.args.losses; ring = c.args.ring; sessions = []; admitted = 0; links = ls }) (ap (λ (n : ℕ). raised n many) all ∙ raised-all many)
 
--- one client more is admitted
+-- one more client is admitted
 pub loop-preserved : goal.loop-preserved
 loop-preserved c =
     let next : suc c.loop.counter ≡ c.loop.counter + 1 = omega arith in

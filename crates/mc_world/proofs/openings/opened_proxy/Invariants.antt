@@ -3,7 +3,7 @@ use Rattle.mc_world.specs.Worlds.{opening_proxy}
 use Rattle.mc_world.proofs.RaisingLemmas.{raised}
 use Rattle.mc_world.proofs.openings.opened_proxy.Given as goal
 
--- so many clients are admitted
+-- the clients so far are admitted
 abbrev pub invariant-loop : goal.invariant-loop
 invariant-loop l = l.proxy ≡ opening_proxy l.fn.losses l.fn.ring l.counter
 

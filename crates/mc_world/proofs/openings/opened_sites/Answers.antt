@@ -30,7 +30,7 @@ opened_site-requires-clause-room g c =
     All-head (λ store. HasRoom c.args.items (g.S.Store.most store)) c.in-Some.store c.next.new.self.rest.items
     (subst (λ (xs : List g.row.S.Denot). All (λ store. HasRoom c.args.items (g.S.Store.most store)) xs) c.in-Some.ensures.steps.0 c.loop-store.invariant.room)
 
--- and so are those after it
+-- the stores after it are empty
 pub loop-store-preserved : goal.loop-store-preserved
 loop-store-preserved g c =
     let steps = c.in-Some.ensures.steps.0 in

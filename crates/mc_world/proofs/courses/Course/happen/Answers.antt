@@ -3,7 +3,7 @@ use Rattle.mc_world.specs.declared.events.Event.TheVariants.{ServerSeesEnd}
 use Rattle.mc_world.proofs.WayLemmas.{done_as, happened, rested}
 use Rattle.mc_world.proofs.courses.Course.happen.Goals as goal
 
--- each event applies where its call does something
+-- each event applies if its call does something
 pub returns-in-ProxyTurn-clause-applies : goal.returns-in-ProxyTurn-clause-applies
 returns-in-ProxyTurn-clause-applies g c = rw (c.in-ProxyTurn.is) (rw (← c.self.view_is) c.take_request.ensures.applies)
 

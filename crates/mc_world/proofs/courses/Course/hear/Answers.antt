@@ -8,7 +8,7 @@ use Rattle.mc_world.specs.declared.errors.Step.TheVariants.{Done}
 use Rattle.mc_world.proofs.CourseLemmas.{with_text}
 use Rattle.mc_world.proofs.courses.Course.hear.Goals as goal
 
--- the session has the piece, and the client's text
+-- the session and the client's text have the piece
 pub returns-clause-happens : goal.returns-clause-happens
 returns-clause-happens g c =
     let told : Does Done (HearsClient c.args.number c.args.bytes.now c.self.inside.pool c.hear.new.self) (c.hear.new.self ≡ c.self.inside.pool) =

@@ -7,14 +7,14 @@ use Rattle.mc_world.proofs.WayLemmas.{cut_as_many, down_and_restarted, lost_and_
 use Rattle.mc_world.proofs.courses.Course.restart.Goals as goal
 use Rattle.mc_world.proofs.courses.Course.restart.Goals.{in-Done, in_default-step}
 
--- there is no such server
+-- no server has this place
 pub returns-then-place-sites-clause-refused : goal.returns-then-place-sites-clause-refused
 returns-then-place-sites-clause-refused g c =
     let past = c.if-place-sites.true in
     let same : length c.sites.result.now ≡ length c.self.inside.pool.sites = ap (λ (ss : List SiteState). length ss) c.sites.ensures in
     rw (← c.self.view_is) (refused_past (length c.self.inside.pool.sites) c.args.place (omega (arith, past, same)))
 
--- there is one
+-- a server has this place
 pub returns-in_default-clause-refused : goal.returns-in_default-clause-refused
 returns-in_default-clause-refused g c =
     let there = c.if-place-sites.false in

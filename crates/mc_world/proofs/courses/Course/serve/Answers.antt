@@ -4,7 +4,7 @@ use Rattle.mc_world.specs.WorldState.{PoolState}
 use Rattle.mc_world.proofs.WayLemmas.{applies_as, by_late, course_of, living_turn, lost_turn, told_as}
 use Rattle.mc_world.proofs.courses.Course.serve.Goals as goal
 
--- one of the living generation
+-- a request of the living generation
 pub returns-then-lives-clause-happens : goal.returns-then-lives-clause-happens
 returns-then-lives-clause-happens g c =
     let lives : Lives c.args.server c.args.generation c.self.inside.pool = c.lives.ensures.0 c.if-lives.true in
@@ -15,7 +15,7 @@ returns-then-lives-clause-happens g c =
     (λ same. ap (λ (p : PoolState). course_of p c.self.inside.clients.items c.self.inside.log.items) same)
     c.server_turn.ensures.takes)
 
--- and one of a lost one
+-- a request of a lost generation
 pub returns-clause-happens : goal.returns-clause-happens
 returns-clause-happens g c =
     let dead : Lives c.args.server c.args.generation c.self.inside.pool → ⊥ = λ lives. let yes = c.lives.ensures.1 lives in let no = c.if-lives.false in absurd cc in

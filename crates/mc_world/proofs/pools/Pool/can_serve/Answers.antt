@@ -6,7 +6,7 @@ use Rattle.mc_world.proofs.AppliesLemmas.{found_way, pool_of}
 use Rattle.mc_world.proofs.ApplyingLemmas.{by_late, by_living, by_nowhere, lost_no_way, never, not_so, serves_living, serves_lost}
 use Rattle.mc_world.proofs.pools.Pool.can_serve.Goals as goal
 
--- there is no such server
+-- no server has this place
 pub returns-in_default : goal.returns-in_default
 returns-in_default g c =
     let none : slice_get c.self.inside.sites.items c.args.place ≡ None =
@@ -41,7 +41,7 @@ returns-in-Some-way g c =
     rw (← c.self.view_is) (by_late c.args.place c.args.generation pool _ _ c.has_request-in-Some-way.result never_lives
     (serves_lost c.args.place c.args.generation c.in-Some-way.i pool c.in-Some.site.now c.index-lost-i.result at found way_at c.has_request-in-Some-way.result (search rules)))
 
--- there is no such generation
+-- the server has no such generation
 pub returns-in-None : goal.returns-in-None
 returns-in-None g c =
     let at : slice_get c.self.inside.sites.items c.args.place ≡ Some c.in-Some.site.now =

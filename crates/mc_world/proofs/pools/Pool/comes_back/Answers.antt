@@ -8,7 +8,7 @@ use Rattle.mc_world.proofs.AppliesLemmas.{pool_of}
 use Rattle.mc_world.proofs.ApplyingLemmas.{comes_if, never, some_if}
 use Rattle.mc_world.proofs.pools.Pool.comes_back.Goals as goal
 
--- there is no such server
+-- no server has this place
 pub returns-in_default : goal.returns-in_default
 returns-in_default g c =
     let none : slice_get c.self.inside.sites.items c.args.place ≡ None =

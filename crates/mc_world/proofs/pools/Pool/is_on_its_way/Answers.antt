@@ -7,7 +7,7 @@ use Rattle.mc_world.proofs.AppliesLemmas.{found_way, pool_of}
 use Rattle.mc_world.proofs.ApplyingLemmas.{by_late, by_nowhere, lost_no_way, never, not_so, reaches_lost, some_if}
 use Rattle.mc_world.proofs.pools.Pool.is_on_its_way.Goals as goal
 
--- there is no such server
+-- no server has this place
 pub returns-in_default : goal.returns-in_default
 returns-in_default g c =
     let none : slice_get c.self.inside.sites.items c.args.place ≡ None =
@@ -34,7 +34,7 @@ returns-in-Some-way g c =
     rw (← c.self.view_is) (λ count asked. by_late c.args.place c.args.generation pool _ _ (not c.is_empty-in-Some-way.result) never_lives
     (reaches_lost c.args.place c.args.generation c.in-Some-way.i count pool c.in-Some.site.now c.index-lost-i.result at found way_at asked (not c.is_empty-in-Some-way.result) some))
 
--- there is no such generation
+-- the server has no such generation
 pub returns-in-None : goal.returns-in-None
 returns-in-None g c =
     let at : slice_get c.self.inside.sites.items c.args.place ≡ Some c.in-Some.site.now =

@@ -40,7 +40,7 @@ returns-clause-applies g c =
     let asked : 0 < c.args.count = search rules in
     rw (← c.self.view_is) (it_applies (record { there = record { site = c.in-Some.site.now; at = at; i = c.in-Some-way.i; first = first; way = found.way; way_at = found.at }; moves = (asked, bytes) }))
 
--- memory is refused only where some bytes are on their way
+-- memory is refused only if some bytes are on their way
 pub returns-in_err-arrive_late-clause-err_applies : goal.returns-in_err-arrive_late-clause-err_applies
 returns-in_err-arrive_late-clause-err_applies g c =
     let inside = c.in-Some.ensures.variant.0 refl in

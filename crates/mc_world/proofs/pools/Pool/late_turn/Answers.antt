@@ -64,7 +64,7 @@ returns-clause-applies g c =
     let found = found_way c.args.generation c.in-Some.site.now.lost c.in-Some-way.i first in
     rw (← c.self.view_is) (it_applies (record { there = record { site = c.in-Some.site.now; at = at; i = c.in-Some-way.i; first = first; way = found.way; way_at = found.at }; waits = (c.in_ok-turn_late.ensures.applies found.way found.at).0 c.in-Done.is }))
 
--- memory is refused only where a request has come whole
+-- memory is refused only if a whole request has arrived
 pub returns-in_err-turn_late-clause-err_applies : goal.returns-in_err-turn_late-clause-err_applies
 returns-in_err-turn_late-clause-err_applies g c =
     let inside = c.in-Some.ensures.variant.0 refl in

@@ -83,7 +83,7 @@ returns-clause-applies g c =
     let admits : CanAdmit c.in-Some.site.now.server = c.in_ok-come_back.ensures.applies.0 c.in-Done.is in
     rw (← c.self.view_is) (it_applies (record { site = c.in-Some.site.now; at = at; can = can_return (link_at c.self.inside.proxy.links c.args.place) down below; admits = admits }))
 
--- memory is refused only where the server can admit a connection
+-- memory is refused only if the server can admit a connection
 pub returns-in_err-come_back-clause-err_applies : goal.returns-in_err-come_back-clause-err_applies
 returns-in_err-come_back-clause-err_applies g c =
     let inside = c.in-Some.ensures.variant.0 refl in

@@ -60,7 +60,7 @@ returns-clause-takes g c =
       counts = search rules;
     })
 
--- memory is refused only where a whole reply has come
+-- memory is refused only if a whole reply has arrived
 pub returns-in_err-link_turn-clause-err_applies : goal.returns-in_err-link_turn-clause-err_applies
 returns-in_err-link_turn-clause-err_applies g c =
     let up : (link_at c.self.inside.proxy.links c.args.place).up ≡ true = search rules in

@@ -4,7 +4,7 @@ use Rattle.mc_world.specs.WorkLeft.{work_left}
 use Rattle.mc_world.proofs.RoundLemmas.{Times}
 use Rattle.mc_world.proofs.worlds.World.alternate.Given as goal
 
--- what was done so far: the one act and then the other, so many times
+-- what was done so far: the one act and then the other, a number of times
 abbrev pub invariant-loop-one : goal.invariant-loop-one
 invariant-loop-one g l = record {
   goes : GoesOn l.moment l.did l.fn.self l.self;

@@ -4,7 +4,7 @@ use Rattle.mc_world.specs.WorkLeft.{work_left}
 use Rattle.mc_world.proofs.RoundLemmas.{Times}
 use Rattle.mc_world.proofs.worlds.World.repeat.Given as goal
 
--- what was done so far: the act, so many times
+-- what was done so far: the act, a number of times
 abbrev pub invariant-loop-did : goal.invariant-loop-did
 invariant-loop-did g l = record {
   goes : GoesOn l.moment l.did l.fn.self l.self;

@@ -6,7 +6,7 @@ use Rattle.mc_world.specs.declared.acts.Act.TheVariants.{SeeEnd}
 use Rattle.mc_world.proofs.RoundLemmas.{Times}
 use Rattle.mc_world.proofs.worlds.World.rest.Given as goal
 
--- what was done so far: the ends, and so many rounds
+-- what was done so far: the ends, and a number of rounds
 abbrev pub invariant-loop : goal.invariant-loop
 invariant-loop g l = record {
   drained : HasDrained l.moment l.fn.self l.self;

@@ -18,7 +18,7 @@ returns-in_err-answered-clause-err g c =
     (drained_then c.args.moment c.take_requests.new.self c.serve_all.new.self c.answer_all.new.self
     (drained c.args.moment c.in_ok-served.served c.take_requests.new.self c.serve_all.new.self c.in_ok-served.ensures.over.goes) c.in_err-answered.ensures.err))
 
--- where no part did anything, no act applied
+-- if no part did anything, no act applied
 pub returns-clause-over : goal.returns-clause-over
 returns-clause-over g c =
     let m = c.args.moment in

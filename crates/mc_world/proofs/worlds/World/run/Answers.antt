@@ -6,7 +6,7 @@ use Rattle.mc_world.proofs.StepLemmas.{runs-more, take-next, tried, tried_in_vai
 use Rattle.mc_world.proofs.worlds.World.run.Goals as goal
 use Rattle.mc_world.proofs.worlds.World.run.Goals.{then-is_err, else-is_err}
 
--- one event more was tried
+-- one more event was tried
 pub loop-event-preserved : goal.loop-event-preserved
 loop-event-preserved g c =
     let i = c.loop-event.event-index in

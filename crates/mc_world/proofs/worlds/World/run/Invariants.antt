@@ -2,7 +2,7 @@ use Rattle.std.proofs.Common.{◌≡◌, ◌≤◌, take}
 use Rattle.mc_world.specs.Steps.{RunsTo}
 use Rattle.mc_world.proofs.worlds.World.run.Given as goal
 
--- the events so far were tried, and no more of them were refused
+-- the events so far were tried, and at most as many were refused
 abbrev pub invariant-loop-event : goal.invariant-loop-event
 invariant-loop-event g l = record {
   runs : RunsTo (take l.event-index l.fn.events) l.fn.self.course l.self.course l.refused;

@@ -19,7 +19,7 @@ pub returns-in_err-repeat-clause-drained : goal.returns-in_err-repeat-clause-dra
 returns-in_err-repeat-clause-drained g c =
     drained_then c.args.moment c.args.self.now c.loop-place.self c.repeat.new.self c.loop-place.invariant.drained c.in_err-repeat.ensures.err
 
--- one server more
+-- one more server has seen its ends
 pub loop-place-preserved : goal.loop-place-preserved
 loop-place-preserved g c =
     let did = c.in_ok-repeat.ensures in

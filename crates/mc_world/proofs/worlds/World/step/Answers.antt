@@ -9,7 +9,7 @@ use Rattle.mc_world.proofs.worlds.World.step.Goals as goal
 pub step-requires : goal.step-requires
 step-requires g c = record { serves = course_serves c.self.inside.opening (opening_cache c.self.inside.budget c.self.inside.items 0) c.self.inside.course c.self.invariant.course }
 
--- and holds after the step
+-- the course holds after the step
 pub invariant_of-self : goal.invariant_of-self
 invariant_of-self g c = record {
   bounds = c.self.invariant.bounds;

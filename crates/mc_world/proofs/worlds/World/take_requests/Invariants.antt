@@ -4,7 +4,7 @@ use Rattle.mc_world.specs.Rounds.{InOrder, Repeats}
 use Rattle.mc_world.specs.declared.acts.Act.TheVariants.{TakeRequest}
 use Rattle.mc_world.proofs.worlds.World.take_requests.Given as goal
 
--- so far it is over, and each client was in its order
+-- the part so far is over, and each client was in its order
 abbrev pub invariant-loop-client : goal.invariant-loop-client
 invariant-loop-client g l = record {
   over : IsOver l.moment (λ s. (k : ℕ) → k < l.client → IsIdle l.moment s.pool (TakeRequest k)) l.did l.fn.self l.self;
