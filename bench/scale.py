@@ -59,7 +59,7 @@ def nine_gets_to_a_set(get, put):
 
 
 # The cost of a request, by bench/serve.py on 2026-11-23: a get and a set, one at a time and 32 at a time, with keys of 20 bytes and values
-# of 100. docs/RUNNING.md, "Planning for many servers", names these figures.
+# of 100. docs/RUNNING.md, "Planning for many servers", is computed from them.
 COSTS_OF_A_POOL = {
     "one at a time": Cost(nine_gets_to_a_set(5_348, 5_681), nine_gets_to_a_set(10_305, 12_523)),
     "32 at a time": Cost(nine_gets_to_a_set(861, 1_118), nine_gets_to_a_set(2_423, 2_188)),
