@@ -3,7 +3,7 @@
 use crate::pools::{TWO, ring};
 use mc_request::Request;
 use mc_request_reader::{Next, Reader};
-use mc_route::{Outcome, atoms, into_atoms, join, without_block};
+use mc_route::{Outcome, atoms, join, without_block};
 use std::alloc::Global;
 use std::test::Fail;
 
@@ -17,15 +17,14 @@ fn request_of(alloc: Global, text: &[u8]) -> Result<Request, Fail> {
     }
 }
 
-/// How many commands a request has by each way, and its answer if they are lost.
-fn routed(alloc: Global, request: Request) -> Result<(usize, usize, Vec<u8>), Fail> {
+/// How many commands a request has, and its answer if they are lost.
+fn routed(alloc: Global, request: &Request) -> Result<(usize, Vec<u8>), Fail> {
     let ring = ring(alloc, &TWO)?;
-    let copied = atoms(alloc, &request, &ring)?.len();
-    let kept = without_block(alloc, &request)?;
-    let moved = into_atoms(alloc, request, &ring)?.len();
+    let commands = atoms(alloc, request, &ring)?.len();
+    let kept = without_block(alloc, request)?;
     let mut answer = Vec::new(alloc);
     join(&kept, &[Outcome::Lost], &mut answer)?;
-    Ok((copied, moved, answer))
+    Ok((commands, answer))
 }
 
 /// Requests, and how many commands each has.
@@ -35,8 +34,9 @@ const KEPT: [(&[u8], usize); 2] = [(b"get a abc\r\n", 2), (b"ms a 1 c k\r\nx\r\n
 fn requests_are_kept(rt: HostRuntime) -> Result<(), Fail> {
     let alloc = rt.alloc();
     for (text, count) in KEPT {
-        let (copied, moved, answer) = routed(alloc, request_of(alloc, text)?)?;
-        assert!(rt; (copied, moved) == (count, count));
+        let request = request_of(alloc, text)?;
+        let (commands, answer) = routed(alloc, &request)?;
+        assert!(rt; commands == count);
         assert!(rt; answer.as_slice() == b"SERVER_ERROR link lost\r\n".as_slice());
     }
     Ok(())

@@ -8,8 +8,7 @@ use mc_text::{Block, Key};
 use std::alloc::{AllocError, Global};
 
 /// Copies a request without its data block. The answer of [`crate::join`] by the copy is the same. A caller that sends
-/// the commands of [`crate::into_atoms`], which take the block along, keeps the copy for the answer, and no block is
-/// copied.
+/// the commands of [`crate::atoms`], which have copies of the block, keeps this one for the answer.
 pub fn without_block(alloc: Global, request: &Request) -> Result<Request, RouteError>
     ensures { IfOk result (λ kept. kept ≡ without_block request.now) }
 {

@@ -1,10 +1,9 @@
 //! Routes: from a request to its servers, and from the outcomes of its commands to its answer.
 //!
 //! [`route`] takes a request that a reader lends, and a ring. It appends the request's commands, each with its server ([`Routed`]), to a queue of
-//! the caller, and returns what is kept for the answer. It computes each key's digest once. Three calls take an owned request: [`atoms`] returns
-//! its commands, and copies keys and blocks. [`into_atoms`] consumes the request and copies none. [`without_block`] copies what is kept for the
-//! answer. When each command has its [`Outcome`], its reply or that it was lost, [`join`] appends the answer to the output, for which
-//! [`join_room`] is room enough.
+//! the caller, and returns what is kept for the answer. It computes each key's digest once. Two calls take an owned request: [`atoms`] returns
+//! its commands, and copies keys and blocks. [`without_block`] copies what is kept for the answer. When each command has its [`Outcome`], its reply
+//! or that it was lost, [`join`] appends the answer to the output, for which [`join_room`] is room enough.
 //!
 //! A key's command goes to the owner of the key, a flush to each server; `mn`, `version` and `quit` have no command. The answer is the one that a
 //! single server would give or, if any command was lost, the line of a lost link alone. [`join_with`] takes the site's choice for lost commands,
@@ -17,7 +16,7 @@
 //!
 //! [`goes_to`] returns whether a server gets any command of a borrowed request.
 //!
-//! `route`, `atoms`, `into_atoms` and `without_block` take memory, and so do `join` and `join_with` if there is not room enough. A call that fails
+//! `route`, `atoms` and `without_block` take memory, and so do `join` and `join_with` if there is not room enough. A call that fails
 //! has changed nothing. `join_room` and `goes_to` take none.
 #![tactic(auto)]
 
@@ -44,7 +43,7 @@ pub use lent::route;
 pub use looks::goes_to;
 pub use losses::Losses;
 pub use outcomes::Outcome;
-pub use routes::{Routed, atoms, into_atoms};
+pub use routes::{Routed, atoms};
 pub use rows::{
     flush_over_three_servers, get_of_four_keys_with_a_dead_server, get_over_two_servers,
     items_of_two_servers, meta_get_that_is_lost, one_lost_of_three, quiet_request_that_is_lost,

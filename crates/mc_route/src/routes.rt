@@ -1,5 +1,5 @@
 //! From a request to its servers.
-ghost use Rattle.std.specs.Prelude.{◌≡◌, ◌+◌, ◌≤◌, ◌++◌, ◌∷◌, [], length, IfOk, IfErr, OnOk};
+ghost use Rattle.std.specs.Prelude.{◌≡◌, ◌+◌, ◌≤◌, ◌++◌, ◌∷◌, [], length, IfOk, OnOk};
 ghost use Rattle.std.specs.VecDeque.{deque_len, deque_capacity};
 ghost use Rattle.mc_reply.specs.Spelling.{meta_key};
 ghost use Rattle.mc_route.specs.Routes.{to_each, to_owner, to_place, route_of_gets, route_of_update, route_of};
@@ -9,7 +9,7 @@ use mc_reply::key_of;
 use mc_request::{Atom, Keys, MetaCommand, Request, Update};
 use mc_ring::Ring;
 use mc_text::{Block, Key};
-use std::alloc::{AllocError, AllocFailed, Global};
+use std::alloc::{AllocError, Global};
 use std::collections::VecDeque;
 
 /// A command, and the server that it goes to.
@@ -30,25 +30,6 @@ pub fn atoms(alloc: Global, request: &Request, ring: &Ring) -> Result<Vec<Routed
     let mut routed = VecDeque::with_capacity(alloc, command_count(request, ring))?;
     push_copied(&mut routed, ring, request)?;
     Ok(routed.into_vec())
-}
-
-/// Returns the commands of a request, which it consumes: no key and no block is copied. If there is no memory, the
-/// request is returned.
-pub fn into_atoms(
-    alloc: Global,
-    request: Request,
-    ring: &Ring,
-) -> Result<Vec<Routed>, AllocFailed<Request>>
-    ensures ok { IfOk result (λ routed. routed.items ≡ route_of ring.now request) }
-    ensures back { IfErr result (λ refused. refused.value ≡ request) }
-{
-    match VecDeque::with_capacity(alloc, command_count(&request, ring)) {
-        Ok(mut routed) => {
-            push_moved(&mut routed, ring, request);
-            Ok(routed.into_vec())
-        }
-        Err(_refused) => Err(AllocFailed { value: request }),
-    }
 }
 
 /// Returns how many commands a request has.
@@ -94,23 +75,6 @@ fn push_copied(
         Request::MetaNoop | Request::Version | Request::Quit => {}
     }
     Ok(())
-}
-
-/// Appends the commands of a request. It moves keys and blocks.
-fn push_moved(routed: &mut VecDeque<Routed>, ring: &Ring, request: Request)
-    requires { deque_len routed.old + length (route_of ring.now request) ≤ deque_capacity routed.old }
-    ensures { routed.new.items ≡ routed.old.items ++ route_of ring.now request }
-{
-    match request {
-        Request::Get {
-            keys,
-            exptime,
-            with_cas,
-        } => push_moved_keys(routed, ring, keys, exptime, with_cas),
-        Request::Update { update, .. } => push_update(routed, ring, update),
-        Request::Meta { command, .. } => push_meta(routed, ring, command),
-        Request::MetaNoop | Request::Version | Request::Quit => {}
-    }
 }
 
 /// Appends a command; there must be room for it.

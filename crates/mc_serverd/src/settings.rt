@@ -26,22 +26,6 @@ pub struct Service {
     pub reserve: usize,
 }
 
-impl Service {
-    /// Returns the default service, until `accept` connections were accepted.
-    pub fn until(accept: u64) -> Service {
-        Service {
-            terms: Terms {
-                accept,
-                idle: 0,
-                report: 0,
-            },
-            answer: USUAL_ANSWER,
-            memory_exit: 0,
-            reserve: USUAL_RESERVE,
-        }
-    }
-}
-
 /// The settings of a server. Its budget and its items are within the bounds of a cache.
 #[derive(Clone, Copy, Debug)]
 pub struct Settings {

@@ -43,13 +43,6 @@ impl<S: Store + Drop> Pool<S> {
         }
     }
 
-    /// The proxy.
-    pub fn proxy(&self) -> &Proxy
-        ensures { result.now ≡ self.now.proxy }
-    {
-        &self.proxy
-    }
-
     /// The servers with their ways, by the places of the ring.
     pub fn sites(&self) -> &[Site<S>]
         ensures { result.now ≡ self.now.sites }

@@ -76,13 +76,6 @@ impl<S: Store + Drop> Site<S> {
         self.history.as_slice()
     }
 
-    /// How many requests it took before its life began: each restart begins a life.
-    pub fn begun(&self) -> usize
-        ensures { result ≡ self.now.begun }
-    {
-        self.begun
-    }
-
     /// How many commands of the living generation the server took whose replies the proxy has not taken.
     pub fn ahead(&self) -> usize
         ensures { result ≡ self.now.ahead }
