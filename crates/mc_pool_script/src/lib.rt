@@ -48,6 +48,6 @@ pub use rows::{
     lines_of_clients, lines_of_drains, lines_of_joins, lines_of_restarts, lines_of_servers,
     losses_of_scripts, points_of_servers,
 };
-pub use scripts::{PoolScript, copy_of, read_pool_script};
+pub use scripts::{PoolScript, read_pool_script};
 pub use texts::{account_of_pool_script, steps_of_pool_script, text_of_pool_script};
 pub use told::push_account;

@@ -11,7 +11,7 @@ ghost use Rattle.mc_world.specs.Rounds.{DrainsInRounds};
 ghost use Rattle.mc_world.specs.Steps.{GivesAccount};
 
 use crate::lines::PoolLine;
-use crate::scripts::{PoolScript, copy_of};
+use crate::scripts::PoolScript;
 use crate::worlds::opened_world;
 use mc_ring::Address;
 use mc_script::{ScriptStore, SimError};
@@ -109,7 +109,7 @@ fn join<S: ScriptStore>(
     ensures only_memory { IsOkUnless result SimError.Memory }
 {
     let store = S::opened(alloc, items)?;
-    let address = copy_of(address)?;
+    let address = address.copy()?;
     match world.join_server(address, store) {
         Ok(_) => Ok(()),
         Err(_) => Err(SimError::Memory),

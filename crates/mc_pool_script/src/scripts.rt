@@ -183,7 +183,7 @@ impl PoolScript {
     {
         self.lines.reserve(1)?;
         if let PoolLine::Join(address) = &line {
-            self.addresses.push(copy_of(address)?)?;
+            self.addresses.push(address.copy()?)?;
         }
         self.lines.push(line).unwrap();
         Ok(())
@@ -212,13 +212,6 @@ fn refused_memory(error: RingError) -> SimError
         RingError::NoServer | RingError::TooMany | RingError::Doubled | RingError::BadAddress =>
             unreachable!(),
     }
-}
-
-/// A copy of an address.
-pub fn copy_of(address: &Address) -> Result<Address, AllocError>
-    ensures { IfOk result (λ copy. copy ≡ address.now) }
-{
-    address.clone()
 }
 
 /// The script that a text is. The error is the first bad line from the top, and a text without lines has a bad line 1.

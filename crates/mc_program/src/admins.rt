@@ -1,12 +1,10 @@
 //! Where operators are answered.
 ghost use Rattle.std.specs.Prelude.{◌≡◌, is_ok};
-ghost use Rattle.std.specs.List.{list_all};
-ghost use Rattle.mc_text.specs.Addresses.{is_host, is_host_byte};
 ghost use Rattle.mc_program.specs.Admins.{is_name};
 
 use clap::builder::ValueParser;
 use clap::{Arg, ArgMatches};
-use mc_text::HOST_LIMIT;
+use mc_text::is_host;
 use std::alloc::Global;
 use std::fmt;
 use std::fmt::{Display, Formatter};
@@ -50,20 +48,6 @@ fn is_name(word: &[u8]) -> bool
     ensures { result ≡ is_name word.now }
 {
     word.is_empty() || is_host(word)
-}
-
-/// Returns whether a word is a host: 1 to 255 letters, digits, dots and hyphens.
-pub fn is_host(word: &[u8]) -> bool
-    ensures { result ≡ is_host word.now }
-{
-    !word.is_empty() && word.len() <= HOST_LIMIT && has_host_bytes_alone(word)
-}
-
-fn has_host_bytes_alone(word: &[u8]) -> bool
-    ensures { result ≡ list_all is_host_byte word.now }
-{
-    word.iter()
-        .all(|b| b.is_ascii_alphanumeric() || *b == b'.' || *b == b'-')
 }
 
 /// Prints the terms that are not at their default, behind other settings.

@@ -9,7 +9,7 @@ ghost use Rattle.mc_ring.specs.Refusals.{refusal_in, refusal_of_text};
 
 use crate::errors::RingError;
 use mc_text::is_address;
-use std::alloc::Global;
+use std::alloc::{AllocError, Global};
 use std::marker::Model;
 
 /// The address of a server: `host:port`. Addresses with equal bytes are one. Contracts see the bytes.
@@ -52,6 +52,13 @@ impl Address {
         }
         let bytes = Vec::from_slice(alloc, text)?;
         Ok(Address { bytes })
+    }
+
+    /// Returns a copy with the same bytes; the contract of `clone` relates only the fields.
+    pub fn copy(&self) -> Result<Address, AllocError>
+        ensures { IfOk result (λ copy. copy ≡ self.now) }
+    {
+        self.clone()
     }
 
     /// Returns the text.

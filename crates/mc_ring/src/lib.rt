@@ -3,7 +3,7 @@
 //! A caller meets the calls in this order. [`Address::new`] parses a server's address, and [`Ring::new`] makes the ring of a list
 //! of servers. [`Ring::owner`] returns the place of the server that owns a key; [`Ring::owner_of_bytes`] does so for a borrowed
 //! key. [`Ring::with_server`] makes a ring with one server more, and [`Ring::of_points`] one with the caller's own points.
-//! [`Ring::servers`] and [`Ring::points`] show what a ring is made of.
+//! [`Ring::servers`] and [`Ring::points`] show what a ring is made of. [`Ring::copy`] and [`Address::copy`] make another one like it.
 //!
 //! In a ring of [`Ring::new`] each server has 160 points: four of each of the 40 MD5 digests of `host:port-k`. A key belongs to
 //! the server of the least point that is not below the key's hash or, if there is none, of the least point of all. The definitions

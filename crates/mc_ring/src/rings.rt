@@ -84,6 +84,13 @@ impl Ring {
         Ok(Ring { servers, points })
     }
 
+    /// Returns a copy with the same servers and points; the contract of `clone` relates only the fields.
+    pub fn copy(&self) -> Result<Ring, AllocError>
+        ensures { IfOk result (λ copy. copy ≡ self.now) }
+    {
+        self.clone()
+    }
+
     /// Returns the place of the server that owns a key, counted from 0. It takes no memory.
     pub fn owner(&self, key: &Key) -> usize
         ensures owner { result ≡ owner_of self.now.points (hash_of key.now) }
@@ -202,13 +209,7 @@ fn copied(alloc: Global, servers: &[Address]) -> Result<Vec<Address>, AllocError
 {
     let mut copies = Vec::new(alloc);
     for server in servers {
-        copies.push(copy_of(server)?)?;
+        copies.push(server.copy()?)?;
     }
     Ok(copies)
-}
-
-fn copy_of(server: &Address) -> Result<Address, AllocError>
-    ensures { IfOk result (λ copy. copy ≡ server.now) }
-{
-    server.clone()
 }

@@ -71,7 +71,7 @@ fn push_copied(
             with_cas,
         } => push_copied_keys(routed, ring, keys, *exptime, *with_cas)?,
         Request::Update { update, .. } => push_update(routed, ring, update.clone()?),
-        Request::Meta { command, .. } => push_meta(routed, ring, meta_copy_of(command)?),
+        Request::Meta { command, .. } => push_meta(routed, ring, command.clone()?),
         Request::MetaNoop | Request::Version | Request::Quit => {}
     }
     Ok(())
@@ -121,21 +121,9 @@ fn push_copied_keys(
     ensures { OnOk result (routed.new.items ≡ routed.old.items ++ route_of_gets ring.now exptime with_cas keys.now) }
 {
     for at in 0..keys.len() {
-        push_get(routed, ring, key_copy_of(keys.key(at))?, exptime, with_cas);
+        push_get(routed, ring, keys.key(at).clone()?, exptime, with_cas);
     }
     Ok(())
-}
-
-fn key_copy_of(key: &Key) -> Result<Key, AllocError>
-    ensures { IfOk result (λ copy. copy ≡ key.now) }
-{
-    key.clone()
-}
-
-fn meta_copy_of(command: &MetaCommand<Key, Block>) -> Result<MetaCommand<Key, Block>, AllocError>
-    ensures { IfOk result (λ copy. copy ≡ command.now) }
-{
-    command.clone()
 }
 
 /// Appends the commands of a retrieval command. It moves the keys.

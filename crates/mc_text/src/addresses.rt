@@ -32,7 +32,7 @@ fn colon_of(text: &[u8]) -> Option<usize>
 }
 
 /// Returns whether a word is a host: 1 to 255 letters, digits, dots and hyphens.
-fn is_host(word: &[u8]) -> bool
+pub fn is_host(word: &[u8]) -> bool
     ensures { result ≡ is_host word.now }
 {
     !word.is_empty() && word.len() <= HOST_LIMIT && has_host_bytes_alone(word)

@@ -34,7 +34,7 @@
 //! # Addresses
 //!
 //! An address is a text that says where to reach a server. [`is_address`] returns whether a text is one: a host, a colon and a port,
-//! exactly as `specs/Addresses.antt` defines it. It resolves no name, and takes no memory.
+//! exactly as `specs/Addresses.antt` defines it. [`is_host`] returns whether it is a host alone. Neither resolves a name, nor takes memory.
 #![tactic(auto)]
 
 mod addresses;
@@ -54,7 +54,7 @@ mod rows;
 mod unready;
 mod word_iter;
 
-pub use addresses::{HOST_LIMIT, is_address};
+pub use addresses::{HOST_LIMIT, is_address, is_host};
 pub use appends::append;
 pub use blocks::{Block, VALUE_LIMIT};
 pub use coded_keys::{CODED_LIMIT, CODED_ROOM, is_coded_key, read_coded, write_coded};

@@ -1,29 +1,22 @@
 //! The proxy of a run, before its first round.
-ghost use Rattle.std.specs.Prelude.{◌≡◌, [], length, IfOk, MatchResult};
+ghost use Rattle.std.specs.Prelude.{◌≡◌, [], length, MatchResult};
 ghost use Rattle.mc_threads.specs.Accounts.{joined, texts_of};
 ghost use Rattle.mc_threads.specs.Talks.{HasAdmitted, HasFed, Talks};
 
 use crate::errors::Ended;
 use mc_proxy::Proxy;
 use mc_ring::Ring;
-use std::alloc::{AllocError, Global};
+use std::alloc::Global;
 
 /// A proxy whose links are all up, and which was fed all bytes that the clients send.
 pub fn opened_proxy(alloc: Global, ring: &Ring, inputs: &[Vec<Vec<u8>>]) -> Result<Proxy, Ended>
     ensures { MatchResult result (λ proxy. Talks ring.now (length inputs.now) (texts_of inputs.now) (λ _. []) (λ _. []) (λ _. []) proxy) (λ cause. cause ≡ Ended.Memory) }
 {
-    let mut proxy = raised_proxy(alloc, copy_of(ring)?)?;
+    let mut proxy = raised_proxy(alloc, ring.copy()?)?;
     for client in 0..inputs.len() {
         admit_one(&mut proxy, &inputs[client])?;
     }
     Ok(proxy)
-}
-
-/// A copy of a ring.
-fn copy_of(ring: &Ring) -> Result<Ring, AllocError>
-    ensures { IfOk result (λ copy. copy ≡ ring.now) }
-{
-    ring.clone()
 }
 
 /// A proxy without clients, whose links are all up with the first generation.

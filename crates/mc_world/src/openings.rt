@@ -16,7 +16,7 @@ use mc_ring::Ring;
 use mc_route::Losses;
 use mc_server::Server;
 use mc_store::{ListStore, Store};
-use std::alloc::{AllocError, Global};
+use std::alloc::Global;
 
 /// A course in which nothing has happened, with a store for each server of the ring.
 pub(crate) fn opened_course<S: Store + Drop>(
@@ -145,11 +145,4 @@ pub(crate) fn empty_stores(alloc: Global, count: usize) -> Result<Vec<ListStore>
         stores.push(ListStore::new(alloc))?;
     }
     Ok(stores)
-}
-
-/// A copy of a ring.
-pub(crate) fn copy_of(ring: &Ring) -> Result<Ring, AllocError>
-    ensures { IfOk result (λ copy. copy ≡ ring.now) }
-{
-    ring.clone()
 }

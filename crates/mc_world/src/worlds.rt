@@ -6,7 +6,7 @@ use crate::courses::Course;
 use crate::errors::{Step, WorldError};
 use crate::events::Event;
 use crate::logs::Logged;
-use crate::openings::{copy_of, empty_stores, fresh_server, opened_course};
+use crate::openings::{empty_stores, fresh_server, opened_course};
 use mc_cache::is_within_bounds;
 use mc_history::Entry;
 use mc_ring::{Address, Ring};
@@ -133,7 +133,7 @@ impl<S: Store + Drop> World<S> {
         {
             return Err(WorldError::BadWorld);
         }
-        let opening = copy_of(&ring)?;
+        let opening = ring.copy()?;
         let course = opened_course(alloc, ring, losses, clients, budget, items, stores)?;
         Ok(World {
             alloc,

@@ -11,7 +11,7 @@ pub loop-client-init : goal.loop-client-init
 loop-client-init c =
     talks_as c.args.ring.now 0 (λ _. []) (below 0 (texts_of c.args.inputs.now)) (λ _. []) (λ _. []) (λ _. []) (λ _. []) (λ _. []) (λ _. []) c.in_ok-proxy.proxy
     (λ n. sym (below_past 0 (texts_of c.args.inputs.now) n (omega arith))) (λ n. refl) (λ n. refl) (λ n. refl)
-    (subst (λ (r : RingState). Talks r 0 (λ _. []) (λ _. []) (λ _. []) (λ _. []) c.in_ok-proxy.proxy) c.in_ok-copy_of.ensures c.in_ok-proxy.ensures)
+    (subst (λ (r : RingState). Talks r 0 (λ _. []) (λ _. []) (λ _. []) (λ _. []) c.in_ok-proxy.proxy) c.in_ok-copy.ensures c.in_ok-proxy.ensures)
 
 pub loop-client-preserved : goal.loop-client-preserved
 loop-client-preserved c =
