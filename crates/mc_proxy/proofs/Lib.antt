@@ -5,3 +5,4 @@ pub mod TurnLemmas
 pub mod LinkLemmas
 pub mod NotingLemmas
 pub mod StepLemmas
+pub mod RaisingLemmas

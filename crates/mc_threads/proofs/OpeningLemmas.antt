@@ -1,39 +1,16 @@
 -- A proxy before its first round.
-use Rattle.std.proofs.Common.{◌≡◌, ⊎_elim, ◌⊎◌, inl, inr, ℕ, zero, suc, ◌<◌, true, List, [], ◌∷◌, length, refl, sym, ap, subst, arith}
+use Rattle.std.proofs.Common.{◌≡◌, ⊎_elim, ◌⊎◌, inl, inr, ℕ, zero, suc, ◌<◌, true, [], length, refl, sym, subst, arith}
 use Rattle.std.specs.Prelude.{replicate}
 use Rattle.std.proofs.lemmas.List.Elements.{All-nil}
 use Rattle.mc_request.specs.Requests.{requests_of, requests_within}
 use Rattle.mc_ring.specs.Rings.{IsRing, RingState}
 use Rattle.mc_route.specs.declared.losses.Losses.TheVariants.{Told}
 use Rattle.mc_link.specs.LinkState.{LinkState, down_link, up_link}
-use Rattle.mc_proxy.specs.SessionState.{link_at, with_link}
+use Rattle.mc_proxy.specs.SessionState.{link_at}
 use Rattle.mc_account.specs.Lanes.{LinkHolds, fresh_lane}
 use Rattle.mc_account.specs.Orders.{IsToldAs, Entry, IsSized}
 use Rattle.mc_account.proofs.LaneLemmas.{lane_fresh}
 use Rattle.mc_threads.specs.Talks.{Talks}
-
--- this many links, of which the first are up
-abbrev pub raised : ℕ → ℕ → List LinkState
-raised zero many = replicate many (down_link 0)
-raised (suc up) zero = []
-raised (suc up) (suc many) = up_link 1 ∷ raised up many
-
--- one more link comes up
-pub raised-next : (up many : ℕ) → up < many → with_link up (up_link 1) (raised up many) ≡ raised (suc up) many
-raised-next up zero inside = absurd (omega (arith, inside))
-raised-next zero (suc many) inside = refl
-raised-next (suc up) (suc many) inside = ap (λ (links : List LinkState). up_link 1 ∷ links) (raised-next up many (omega (arith, inside)))
-
--- the next one is down
-pub raised-at : (up many : ℕ) → up < many → link_at (raised up many) up ≡ down_link 0
-raised-at up zero inside = absurd (omega (arith, inside))
-raised-at zero (suc many) inside = refl
-raised-at (suc up) (suc many) inside = raised-at up many (omega (arith, inside))
-
--- all links are up
-pub raised-all : (many : ℕ) → raised many many ≡ replicate many (up_link 1)
-raised-all zero = refl
-raised-all (suc many) = ap (λ (links : List LinkState). up_link 1 ∷ links) (raised-all many)
 
 -- a link that is up, or none
 up_or_none : (n place : ℕ) → (link_at (replicate n (up_link 1)) place ≡ up_link 1) ⊎ (link_at (replicate n (up_link 1)) place ≡ down_link 0)

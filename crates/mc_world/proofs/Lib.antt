@@ -40,7 +40,6 @@ pub mod JoinLemmas
 pub mod RestartLemmas
 pub mod RunLemmas
 pub mod ServingLemmas
-pub mod RaisingLemmas
 pub mod StepLemmas
 pub mod WayLemmas
 pub mod OpeningLemmas

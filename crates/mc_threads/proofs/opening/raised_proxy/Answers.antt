@@ -5,7 +5,8 @@ use Rattle.mc_link.specs.LinkState.{LinkState, up_link}
 use Rattle.mc_proxy.specs.ProxyState.{ProxyState}
 use Rattle.mc_proxy.specs.SessionState.{link_at, with_link}
 use Rattle.mc_threads.specs.Talks.{Talks}
-use Rattle.mc_threads.proofs.OpeningLemmas.{talks_opens, raised, raised-all, raised-at, raised-next}
+use Rattle.mc_proxy.proofs.RaisingLemmas.{raised, raised-all, raised-at, raised-next}
+use Rattle.mc_threads.proofs.OpeningLemmas.{talks_opens}
 use Rattle.mc_threads.proofs.opening.raised_proxy.Goals as goal
 
 -- one more link is up, with the first generation

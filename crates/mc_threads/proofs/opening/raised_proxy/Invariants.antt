@@ -1,6 +1,6 @@
 use Rattle.std.proofs.Common.{◌≡◌, [], length}
 use Rattle.mc_route.specs.declared.losses.Losses.TheVariants.{Told}
-use Rattle.mc_threads.proofs.OpeningLemmas.{raised}
+use Rattle.mc_proxy.proofs.RaisingLemmas.{raised}
 use Rattle.mc_threads.proofs.opening.raised_proxy.Given as goal
 
 -- the first links are up

@@ -1,6 +1,6 @@
 use Rattle.std.proofs.Common.{◌≡◌, [], length}
 use Rattle.mc_world.specs.Worlds.{opening_proxy}
-use Rattle.mc_world.proofs.RaisingLemmas.{raised}
+use Rattle.mc_proxy.proofs.RaisingLemmas.{raised}
 use Rattle.mc_world.proofs.openings.opened_proxy.Given as goal
 
 -- the clients so far are admitted
