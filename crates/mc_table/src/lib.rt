@@ -51,7 +51,7 @@ mod tables;
 pub use chained::Chained;
 pub use key_hashers::{KeyHasher, SecretState};
 #[doc(hidden)]
-pub use links::Link;
+pub use links::LruNode;
 pub use numbered::Numbered;
 #[doc(hidden)]
 pub use orders::Order;

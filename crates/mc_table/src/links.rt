@@ -2,7 +2,7 @@
 
 /// The places before and after a place, in a ring of places.
 #[derive(Clone, Copy)]
-pub struct Link {
+pub struct LruNode {
     /// The place before it.
     pub before: u32,
     /// The place after it.

@@ -3,7 +3,7 @@ ghost use Rattle.std.specs.Prelude.{◌≡◌, ◌<◌, ◌≤◌, ◌+◌, ◌-
 ghost use Rattle.mc_table.specs.Places.{first_of, last_of, left_out, renumbered, AreAll};
 ghost use Rattle.mc_table.specs.Rings.{link_at, joined, unlinked, linked_before, places_of, IsRing};
 
-use crate::links::Link;
+use crate::links::LruNode;
 use std::alloc::{AllocError, Global};
 use std::marker::Model;
 
@@ -13,7 +13,7 @@ use std::marker::Model;
 #[derive(Drop)]
 pub struct Order {
     /// The link of each place. The link of place 0 leads to the first and to the last.
-    links: Vec<Link>,
+    links: Vec<LruNode>,
 }
 
 impl Model for Order {
@@ -33,7 +33,7 @@ impl Order {
         ensures { IfOk result (λ order. order ≡ []) }
     {
         let mut links = Vec::with_capacity(alloc, places.saturating_add(1))?;
-        links.push(Link {
+        links.push(LruNode {
             before: 0,
             after: 0,
         })?;
@@ -92,7 +92,7 @@ impl Order {
         if place > u32::MAX as usize {
             return Err(AllocError);
         }
-        self.links.push(Link {
+        self.links.push(LruNode {
             before: 0,
             after: 0,
         })?;
@@ -119,7 +119,7 @@ impl Order {
     {
         self.links.truncate(1);
         let links = self.links.as_mut_slice();
-        links[0] = Link {
+        links[0] = LruNode {
             before: 0,
             after: 0,
         };
@@ -138,7 +138,7 @@ impl Order {
 
 /// Links two places, so that one follows the other.
 #[tactic(auto, unfolding(crate::specs::Rings::joined))]
-fn join(links: &mut [Link], previous: u32, next: u32)
+fn join(links: &mut [LruNode], previous: u32, next: u32)
     requires previous { previous < length links.old }
     requires next { next < length links.old }
     ensures { links.new ≡ joined links.old previous next }
@@ -149,7 +149,7 @@ fn join(links: &mut [Link], previous: u32, next: u32)
 
 /// Joins the neighbours of a place.
 #[tactic(auto, unfolding(crate::specs::Rings::unlinked))]
-fn unlink(links: &mut [Link], place: u32)
+fn unlink(links: &mut [LruNode], place: u32)
     requires place { place < length links.old }
     requires before { (link_at links.old place).before < length links.old }
     requires after { (link_at links.old place).after < length links.old }
@@ -161,7 +161,7 @@ fn unlink(links: &mut [Link], place: u32)
 
 /// Inserts a place right before another.
 #[tactic(auto, unfolding(crate::specs::Rings::linked_before), using(crate::proofs::LinkLemmas::lengths))]
-fn link_before(links: &mut [Link], place: u32, next: u32)
+fn link_before(links: &mut [LruNode], place: u32, next: u32)
     requires place { place < length links.old }
     requires next { next < length links.old }
     requires before { (link_at links.old next).before < length links.old }
@@ -174,7 +174,7 @@ fn link_before(links: &mut [Link], place: u32, next: u32)
 
 /// Moves a place to the front.
 #[tactic(auto, using(crate::proofs::LinkLemmas::lengths))]
-fn bring(links: &mut [Link], place: u32)
+fn bring(links: &mut [LruNode], place: u32)
     requires ring { IsRing links.old (places_of links.old) }
     requires positive { 0 < place }
     requires within { place ≤ length (places_of links.old) }
@@ -188,7 +188,7 @@ fn bring(links: &mut [Link], place: u32)
 
 /// Removes a place, and gives its number to the greatest. Then the last link is free.
 #[tactic(auto, using(crate::proofs::LinkLemmas::lengths))]
-fn take_out(links: &mut [Link], place: u32)
+fn take_out(links: &mut [LruNode], place: u32)
     requires ring { IsRing links.old (places_of links.old) }
     requires positive { 0 < place }
     requires within { place ≤ length (places_of links.old) }

@@ -1,5 +1,5 @@
 use Rattle.std.proofs.Common.{◌≡◌, ℕ, ◌∷◌, List, length, ap, sym, ◌∙◌, subst}
-use Rattle.mc_table.specs.declared.links.Link.{Link}
+use Rattle.mc_table.specs.declared.links.LruNode.{LruNode}
 use Rattle.mc_table.specs.Places.{left_out}
 use Rattle.mc_table.specs.Rings.{places_of}
 use Rattle.mc_table.proofs.OrderLemmas.{ring_at, places_at, refilled, zero_read, first_is}
@@ -16,4 +16,4 @@ returns-then-index-place c =
 pub returns-else-index-place : goal.returns-else-index-place
 returns-else-index-place c =
     subst (λ (l : List ℕ). l ≡ c.args.place ∷ left_out c.args.place l) c.self.view_is
-    (first_is _ _ _ c.self.invariant c.requires.positive (ap (λ (l : Link). l.after) (sym (zero_read _ _ _ c.self.invariant c.index.ensures)) ∙ c.if-index-place.false))
+    (first_is _ _ _ c.self.invariant c.requires.positive (ap (λ (l : LruNode). l.after) (sym (zero_read _ _ _ c.self.invariant c.index.ensures)) ∙ c.if-index-place.false))
