@@ -54,7 +54,7 @@ pub use key_hashers::{KeyHasher, SecretState};
 pub use links::LruNode;
 pub use numbered::Numbered;
 #[doc(hidden)]
-pub use orders::Order;
+pub use orders::LruList;
 #[doc(hidden)]
 pub use slots::Slot;
 pub use tables::Table;

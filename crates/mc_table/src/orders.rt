@@ -11,12 +11,12 @@ use std::marker::Model;
 ///
 /// Contracts see the places. Each call takes the same time for any number of places. A place takes 8 bytes.
 #[derive(Drop)]
-pub struct Order {
+pub struct LruList {
     /// The link of each place. The link of place 0 leads to the first and to the last.
     links: Vec<LruNode>,
 }
 
-impl Model for Order {
+impl Model for LruList {
     ghost use Rattle.std.specs.Prelude.{List, ℕ};
     ghost use Rattle.mc_table.specs.Rings.{places_of, IsRing};
 
@@ -27,9 +27,9 @@ impl Model for Order {
     ghost invariant = { λ o. IsRing o.links.items (places_of o.links.items) };
 }
 
-impl Order {
+impl LruList {
     /// Makes an order of no place, with room for `places`.
-    pub fn with_capacity(alloc: Global, places: usize) -> Result<Order, AllocError>
+    pub fn with_capacity(alloc: Global, places: usize) -> Result<LruList, AllocError>
         ensures { IfOk result (λ order. order ≡ []) }
     {
         let mut links = Vec::with_capacity(alloc, places.saturating_add(1))?;
@@ -37,7 +37,7 @@ impl Order {
             before: 0,
             after: 0,
         })?;
-        Ok(Order { links })
+        Ok(LruList { links })
     }
 
     /// Returns the number of places.

@@ -8,7 +8,7 @@ ghost use Rattle.mc_table.specs.Places.{left_out};
 ghost use Rattle.mc_table.specs.Tables.{in_order, promoted, put_entry, IsTable};
 
 use crate::chained::Chained;
-use crate::orders::Order;
+use crate::orders::LruList;
 use std::alloc::{AllocError, AllocFailed, Global};
 use std::collections::hash_map::Equivalent;
 use std::hash::{BuildHasher, Hash};
@@ -36,7 +36,7 @@ use std::mem;
 pub struct Table<K: Eq + Hash, V, S: BuildHasher> {
     entries: Chained<K, V, S>,
     /// The place of each entry: its index plus one.
-    order: Order,
+    order: LruList,
 }
 
 impl<K: Eq + Hash, V, S: BuildHasher> Model for Table<K, V, S> {
@@ -58,7 +58,7 @@ impl<K: Eq + Hash, V, S: BuildHasher + Drop> Table<K, V, S> {
     pub fn with_hasher(alloc: Global, entries: usize, hasher: S) -> Result<Self, AllocError>
         ensures { IfOk result (λ t. t ≡ []) }
     {
-        let order = Order::with_capacity(alloc, entries)?;
+        let order = LruList::with_capacity(alloc, entries)?;
         let entries = Chained::with_hasher(alloc, entries, hasher)?;
         Ok(Table { entries, order })
     }
@@ -257,7 +257,7 @@ impl<K: Eq + Hash, V, S: BuildHasher> Table<K, V, S> {
 /// Removes and returns the entry at an index, and removes its place.
 fn remove_at<K: Eq + Hash, V, S: BuildHasher>(
     entries: &mut Chained<K, V, S>,
-    order: &mut Order,
+    order: &mut LruList,
     index: usize,
 ) -> (K, V)
     requires table { IsTable entries.old order.old }

@@ -2,7 +2,7 @@ use Rattle.std.proofs.Common.{ℕ, List, length, ap, ◌∙◌}
 use Rattle.mc_table.specs.Places.{left_out, renumbered}
 use Rattle.mc_table.specs.Rings.{places_of}
 use Rattle.mc_table.proofs.OrderLemmas.{ring_at, places_at, popped}
-use Rattle.mc_table.proofs.orders.Order.remove.Goals as goal
+use Rattle.mc_table.proofs.orders.LruList.remove.Goals as goal
 
 pub invariant_of-self : goal.invariant_of-self
 invariant_of-self c =

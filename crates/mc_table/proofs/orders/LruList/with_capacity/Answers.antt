@@ -2,7 +2,7 @@ use Rattle.std.proofs.Common.{List, [], ◌∷◌, ◌++◌, ap, ◌∙◌}
 use Rattle.mc_table.specs.declared.links.LruNode.{LruNode}
 use Rattle.mc_table.specs.Rings.{no_link}
 use Rattle.mc_table.proofs.OrderLemmas.{ring_at, places_at, ring_none}
-use Rattle.mc_table.proofs.orders.Order.with_capacity.Goals as goal
+use Rattle.mc_table.proofs.orders.LruList.with_capacity.Goals as goal
 
 pub invariant_of-result : goal.invariant_of-result
 invariant_of-result c =

@@ -1,6 +1,6 @@
 use Rattle.std.proofs.Common.{◌≡◌, ℕ, suc, ◌∷◌, List, length, ap, ◌∙◌, arith}
 use Rattle.mc_table.proofs.OrderLemmas.{ring_at, places_at, refilled, more_sides, more_ring, linked_length, ring_small}
-use Rattle.mc_table.proofs.orders.Order.push_front.Goals as goal
+use Rattle.mc_table.proofs.orders.LruList.push_front.Goals as goal
 
 pub link_before-requires-clause-next : goal.link_before-requires-clause-next
 link_before-requires-clause-next c = (more_sides _ _ _ c.self.invariant (c.as_mut_slice-links.ensures.value ∙ c.in_ok-push.ensures.items)).own

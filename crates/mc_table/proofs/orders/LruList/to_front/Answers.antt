@@ -3,7 +3,7 @@ use Rattle.mc_table.specs.declared.links.LruNode.{LruNode}
 use Rattle.mc_table.specs.Places.{left_out}
 use Rattle.mc_table.specs.Rings.{places_of}
 use Rattle.mc_table.proofs.OrderLemmas.{ring_at, places_at, refilled, zero_read, first_is}
-use Rattle.mc_table.proofs.orders.Order.to_front.Goals as goal
+use Rattle.mc_table.proofs.orders.LruList.to_front.Goals as goal
 
 pub invariant_of-self : goal.invariant_of-self
 invariant_of-self c = ring_at _ _ _ (refilled c.self.inside.links c.bring.new.links (c.bring.ensures.length ∙ ap length c.as_mut_slice.ensures.value)) c.bring.ensures.ring

@@ -2,7 +2,7 @@ use Rattle.std.proofs.Common.{ap, ◌∙◌}
 use Rattle.mc_table.specs.declared.links.LruNode.{LruNode}
 use Rattle.mc_table.specs.Places.{last_of}
 use Rattle.mc_table.proofs.OrderLemmas.{zero_read, ring_last}
-use Rattle.mc_table.proofs.orders.Order.last.Goals as goal
+use Rattle.mc_table.proofs.orders.LruList.last.Goals as goal
 
 pub returns : goal.returns
 returns c =

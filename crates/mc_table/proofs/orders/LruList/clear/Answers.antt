@@ -2,7 +2,7 @@ use Rattle.std.proofs.Common.{◌<◌, length, [], ◌∷◌, ap, ◌∙◌, ari
 use Rattle.std.proofs.lemmas.List.{length-set}
 use Rattle.mc_table.specs.Rings.{no_link}
 use Rattle.mc_table.proofs.OrderLemmas.{ring_at, places_at, ring_none, refilled, cleared}
-use Rattle.mc_table.proofs.orders.Order.clear.Goals as goal
+use Rattle.mc_table.proofs.orders.LruList.clear.Goals as goal
 
 pub invariant_of-self : goal.invariant_of-self
 invariant_of-self c =
