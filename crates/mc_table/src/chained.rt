@@ -19,14 +19,14 @@ use std::marker::Model;
 /// Contracts see the entries by their index. The constructor fixes the number of buckets, so only `clear` does work that grows
 /// with the entries.
 #[derive(Drop)]
-pub struct Chained<K: Eq + Hash, V, S: BuildHasher> {
+pub struct HashIndex<K: Eq + Hash, V, S: BuildHasher> {
     slots: Vec<Slot<K, V>>,
     /// The first place of each bucket's chain, or 0 if it has no slot.
     heads: Vec<u32>,
     hasher: S,
 }
 
-impl<K: Eq + Hash, V, S: BuildHasher> Model for Chained<K, V, S> {
+impl<K: Eq + Hash, V, S: BuildHasher> Model for HashIndex<K, V, S> {
     ghost use Rattle.std.specs.Prelude.{List};
     ghost use Rattle.std.specs.Coded.{coded_list, coded×};
 
@@ -41,7 +41,7 @@ impl<K: Eq + Hash, V, S: BuildHasher> Model for Chained<K, V, S> {
     ghost invariant = { λ t. AreHashed K.eq (λ k. tag_of S.BuildHasher S.Hasher.Hasher t.hasher (K.hash_input k)) t.heads.items t.slots.items };
 }
 
-impl<K: Eq + Hash, V, S: BuildHasher + Drop> Chained<K, V, S> {
+impl<K: Eq + Hash, V, S: BuildHasher + Drop> HashIndex<K, V, S> {
     /// Makes a table of no entry, with room for `entries`, whose keys this hasher hashes.
     pub fn with_hasher(alloc: Global, entries: usize, hasher: S) -> Result<Self, AllocError>
         ensures { IfOk result (λ t. t ≡ []) }
@@ -50,7 +50,7 @@ impl<K: Eq + Hash, V, S: BuildHasher + Drop> Chained<K, V, S> {
         let mut heads = Vec::with_capacity(alloc, buckets)?;
         heads.resize(buckets, 0)?;
         let slots = Vec::with_capacity(alloc, entries)?;
-        Ok(Chained {
+        Ok(HashIndex {
             slots,
             heads,
             hasher,
@@ -58,7 +58,7 @@ impl<K: Eq + Hash, V, S: BuildHasher + Drop> Chained<K, V, S> {
     }
 }
 
-impl<K: Eq + Hash, V, S: BuildHasher> Chained<K, V, S> {
+impl<K: Eq + Hash, V, S: BuildHasher> HashIndex<K, V, S> {
     ghost use Rattle.mc_table.specs.Lends.{lends_at};
 
     /// Returns the number of entries.
@@ -91,7 +91,7 @@ impl<K: Eq + Hash, V, S: BuildHasher> Chained<K, V, S> {
         self.get_index_of(query)
     }
 
-    /// Returns the tag of a key, which [`Chained::guess_all`] takes.
+    /// Returns the tag of a key, which [`HashIndex::guess_all`] takes.
     #[inline]
     pub fn tag<Q: Hash + Copy>(&self, key: Q) -> u32 {
         tag_of(&self.hasher, key)

@@ -48,7 +48,7 @@ mod tables;
 
 // A crate can name a table in a contract only if the types of its fields are exported.
 #[doc(hidden)]
-pub use chained::Chained;
+pub use chained::HashIndex;
 pub use key_hashers::{KeyHasher, SecretState};
 #[doc(hidden)]
 pub use links::LruNode;

@@ -7,7 +7,7 @@ ghost use Rattle.std.specs.Map.Iter.{deref_pair};
 ghost use Rattle.mc_table.specs.Places.{left_out};
 ghost use Rattle.mc_table.specs.Tables.{in_order, promoted, put_entry, IsTable};
 
-use crate::chained::Chained;
+use crate::chained::HashIndex;
 use crate::orders::LruList;
 use std::alloc::{AllocError, AllocFailed, Global};
 use std::collections::hash_map::Equivalent;
@@ -34,7 +34,7 @@ use std::mem;
 /// there are at least 16 heads and at most 2^31.
 #[derive(Drop)]
 pub struct Table<K: Eq + Hash, V, S: BuildHasher> {
-    entries: Chained<K, V, S>,
+    entries: HashIndex<K, V, S>,
     /// The place of each entry: its index plus one.
     order: LruList,
 }
@@ -59,7 +59,7 @@ impl<K: Eq + Hash, V, S: BuildHasher + Drop> Table<K, V, S> {
         ensures { IfOk result (λ t. t ≡ []) }
     {
         let order = LruList::with_capacity(alloc, entries)?;
-        let entries = Chained::with_hasher(alloc, entries, hasher)?;
+        let entries = HashIndex::with_hasher(alloc, entries, hasher)?;
         Ok(Table { entries, order })
     }
 }
@@ -256,7 +256,7 @@ impl<K: Eq + Hash, V, S: BuildHasher> Table<K, V, S> {
 
 /// Removes and returns the entry at an index, and removes its place.
 fn remove_at<K: Eq + Hash, V, S: BuildHasher>(
-    entries: &mut Chained<K, V, S>,
+    entries: &mut HashIndex<K, V, S>,
     order: &mut LruList,
     index: usize,
 ) -> (K, V)

@@ -5,7 +5,7 @@ use Rattle.mc_table.specs.Slots.{entries_of}
 use Rattle.mc_table.specs.Tables.{IsNowhere}
 use Rattle.mc_table.proofs.SlotLemmas.{length-entries_of}
 use Rattle.mc_table.proofs.HashedLemmas.{hashed_pushed}
-use Rattle.mc_table.proofs.chained.Chained.push.Goals as goal
+use Rattle.mc_table.proofs.chained.HashIndex.push.Goals as goal
 
 pub invariant_of-self : goal.invariant_of-self
 invariant_of-self g c =

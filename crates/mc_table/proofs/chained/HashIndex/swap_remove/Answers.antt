@@ -1,7 +1,7 @@
 use Rattle.std.proofs.Common.{◌<◌, length, ap, arith}
 use Rattle.mc_table.proofs.SlotLemmas.{length-entries_of}
 use Rattle.mc_table.proofs.HashedLemmas.{hashed_taken}
-use Rattle.mc_table.proofs.chained.Chained.swap_remove.Goals as goal
+use Rattle.mc_table.proofs.chained.HashIndex.swap_remove.Goals as goal
 
 pub invariant_of-self : goal.invariant_of-self
 invariant_of-self g c =

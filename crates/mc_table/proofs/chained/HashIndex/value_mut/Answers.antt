@@ -4,7 +4,7 @@ use Rattle.std.specs.Map.{values_of}
 use Rattle.mc_table.specs.Tables.{with_value}
 use Rattle.mc_table.proofs.SlotLemmas.{length-entries_of}
 use Rattle.mc_table.proofs.HashedLemmas.{hashed_lent, entries_lent, value_at}
-use Rattle.mc_table.proofs.chained.Chained.value_mut.Goals as goal
+use Rattle.mc_table.proofs.chained.HashIndex.value_mut.Goals as goal
 
 pub invariant_of-self-lent : goal.invariant_of-self-lent
 invariant_of-self-lent g c = λ w. hashed_lent _ _ _ c.self.inside.slots.items c.args.index _ w c.index_mut-slot.ensures.value c.self.invariant

@@ -1,5 +1,5 @@
 use Rattle.mc_table.proofs.HashedLemmas.{stands_alone}
-use Rattle.mc_table.proofs.chained.Chained.get_index_of.Goals as goal
+use Rattle.mc_table.proofs.chained.HashIndex.get_index_of.Goals as goal
 
 pub returns-clause-found : goal.returns-clause-found
 returns-clause-found g c =

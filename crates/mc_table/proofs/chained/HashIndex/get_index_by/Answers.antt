@@ -1,6 +1,6 @@
 use Rattle.std.proofs.Common.{◌-◌, Some}
 use Rattle.mc_table.proofs.HashedLemmas.{stands_alone}
-use Rattle.mc_table.proofs.chained.Chained.get_index_by.Goals as goal
+use Rattle.mc_table.proofs.chained.HashIndex.get_index_by.Goals as goal
 
 pub returns-then-stands_at-clause-found : goal.returns-then-stands_at-clause-found
 returns-then-stands_at-clause-found g c =
