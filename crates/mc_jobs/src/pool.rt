@@ -6,7 +6,7 @@ use crate::errors::JobError;
 use crate::keys::{Stock, append_key, append_number, by_rank, large_len, small_len};
 use crate::randoms::Random;
 use crate::served::{Held, opened, turn_all};
-use mc_proxy::{Emit, LinkTurn, Proxy, Turn};
+use mc_proxy::{Emit, LinkStep, Proxy, Turn};
 use mc_ring::{Address, Ring};
 use std::alloc::{AllocError, Global};
 
@@ -168,9 +168,9 @@ impl Pool {
     fn take_replies(&mut self, place: usize) -> Result<(), JobError> {
         for _ in 0..u64::MAX {
             match self.proxy.link_turn(place) {
-                Ok(LinkTurn::Took) => {}
-                Ok(LinkTurn::Idle) => break,
-                Ok(LinkTurn::Strange) | Err(_) => return Err(JobError::Refused),
+                Ok(LinkStep::Took) => {}
+                Ok(LinkStep::Idle) => break,
+                Ok(LinkStep::Strange) | Err(_) => return Err(JobError::Refused),
             }
         }
         Ok(())

@@ -1,7 +1,7 @@
 //! The high-water marks at which a session's turns wait, to the byte.
 
 use crate::pools::{ONE, pool};
-use mc_proxy::{Emit, LINK_MARK, LinkTurn, MAX_UNANSWERED, Proxy, ProxyError, Turn, UNSENT_MARK};
+use mc_proxy::{Emit, LINK_MARK, LinkStep, MAX_UNANSWERED, Proxy, ProxyError, Turn, UNSENT_MARK};
 use mc_server_tests::with_value;
 use std::test::Fail;
 
@@ -28,7 +28,7 @@ fn is_taken(proxy: &mut Proxy, request: &[u8], times: usize) -> Result<bool, Pro
 /// Whether a server's bytes are taken as a reply.
 fn is_reply(proxy: &mut Proxy, reply: &[u8]) -> Result<bool, ProxyError> {
     proxy.link_feed(0, reply)?;
-    Ok(proxy.link_turn(0)? == LinkTurn::Took)
+    Ok(proxy.link_turn(0)? == LinkStep::Took)
 }
 
 /// The result of the turn after this number of bytes were sent to the client.

@@ -3,7 +3,7 @@
 //! A call that is refused memory is made again. So a dialogue goes the same way whichever allocation of it is refused, and
 //! `tests/gate/refused.py` refuses each of them in turn.
 
-use mc_proxy::LinkTurn::{self, Idle, Strange, Took};
+use mc_proxy::LinkStep::{self, Idle, Strange, Took};
 use mc_proxy::{Emit, Losses, Proxy, ProxyError, Turn};
 use mc_ring::{Address, Point, Ring, RingError};
 use mc_server_tests::again;
@@ -18,7 +18,7 @@ enum Step {
     /// Exactly these bytes are unsent to a server, and are sent.
     Sends(usize, &'static [u8]),
     /// A server's bytes arrive, one at a time, with a turn of the link after each; the last turn returns this.
-    Hears(usize, &'static [u8], LinkTurn),
+    Hears(usize, &'static [u8], LinkStep),
     /// This number of answers are emitted, and no more are known. Then exactly these bytes are unsent to the client, and are
     /// sent.
     Tells(u64, usize, &'static [u8]),
@@ -374,7 +374,7 @@ fn link_feed(proxy: &mut Proxy, server: usize, bytes: &[u8]) -> Result<(), Proxy
     again!(proxy.link_feed(server, bytes))
 }
 
-fn link_turn(proxy: &mut Proxy, server: usize) -> Result<LinkTurn, ProxyError> {
+fn link_turn(proxy: &mut Proxy, server: usize) -> Result<LinkStep, ProxyError> {
     again!(proxy.link_turn(server))
 }
 
@@ -450,7 +450,7 @@ fn tells(proxy: &mut Proxy, session: u64, wanted: &[u8]) -> bool {
 }
 
 /// Feeds a server's bytes, one at a time, and returns the link's last turn.
-fn hears(proxy: &mut Proxy, server: usize, bytes: &[u8]) -> Result<LinkTurn, ProxyError> {
+fn hears(proxy: &mut Proxy, server: usize, bytes: &[u8]) -> Result<LinkStep, ProxyError> {
     let mut last = Idle;
     for byte in bytes {
         link_feed(proxy, server, &[*byte])?;

@@ -8,8 +8,8 @@ use Rattle.mc_link.specs.declared.turns.Tag.{Tag}
 use Rattle.mc_proxy.specs.SessionState.{link_at, with_link}
 use Rattle.mc_proxy.specs.ProxyState.{ProxyState}
 use Rattle.mc_proxy.specs.Noting.{noted, all_lost}
-use Rattle.mc_proxy.specs.declared.turns.LinkTurn.{LinkTurn}
-use Rattle.mc_proxy.specs.declared.turns.LinkTurn.TheVariants.{Took, Idle, Strange}
+use Rattle.mc_proxy.specs.declared.turns.LinkStep.{LinkStep}
+use Rattle.mc_proxy.specs.declared.turns.LinkStep.TheVariants.{Took, Idle, Strange}
 
 -- the link at a place is lost: each of its pending commands is lost, and its buffers are dropped
 abbrev pub lost_at : ℕ → ProxyState → ProxyState
@@ -30,7 +30,7 @@ pub record Answers (place : ℕ) (old new : ProxyState) : Type 0 where
   pub admitted : new.admitted ≡ old.admitted
 
 -- what a turn of the link at a place does
-abbrev pub IsLinkTurn : ℕ → LinkTurn → ProxyState → ProxyState → Type 0
+abbrev pub IsLinkTurn : ℕ → LinkStep → ProxyState → ProxyState → Type 0
 IsLinkTurn place Took old new = Answers place old new
 IsLinkTurn place Idle old new = IsIdle (link_at old.links place).waiting (link_at old.links place).unread × (new ≡ old)
 IsLinkTurn place Strange old new = HasStrange (link_at old.links place).waiting (link_at old.links place).unread × (new ≡ lost_at place old)

@@ -62,4 +62,4 @@ pub use session_errors::SessionError;
 pub use session_limits::{LINK_MARK, MAX_UNANSWERED, UNSENT_MARK};
 pub use session_turns::{Emit, Turn};
 pub use sessions::Session;
-pub use turns::LinkTurn;
+pub use turns::LinkStep;

@@ -4,7 +4,7 @@ ghost use Rattle.std.specs.Prelude.{◌≡◌, ◌+◌, ◌-◌, ◌^◌, ◌<�
 
 use crate::errors::ProxyError;
 use crate::proxies::Proxy;
-use crate::turns::LinkTurn;
+use crate::turns::LinkStep;
 use mc_link::{Link, Tag};
 use mc_ring::Address;
 use mc_route::Outcome;
@@ -68,7 +68,7 @@ impl Proxy {
     /// no command is pending, the link is lost as by [`Proxy::lost`].
     ///
     /// It takes memory only for a value, which is copied out once.
-    pub fn link_turn(&mut self, server: usize) -> Result<LinkTurn, ProxyError>
+    pub fn link_turn(&mut self, server: usize) -> Result<LinkStep, ProxyError>
         ensures turn { IfOk result (λ turn. IsLinkTurn server turn self.old self.new) }
         ensures memory { IsErrOf result ProxyError.Memory → HasReply (link_at self.old.links server) }
         ensures no_link { IsErrOf result ProxyError.NoLink ↔ (length self.old.links ≤ server) }
@@ -82,12 +82,12 @@ impl Proxy {
         match link.turn(self.alloc)? {
             mc_link::LinkTurn::Took(tag, reply) => {
                 self.note(tag, Outcome::Reply(reply));
-                Ok(LinkTurn::Took)
+                Ok(LinkStep::Took)
             }
-            mc_link::LinkTurn::Idle => Ok(LinkTurn::Idle),
+            mc_link::LinkTurn::Idle => Ok(LinkStep::Idle),
             mc_link::LinkTurn::Strange => {
                 self.lost(server)?;
-                Ok(LinkTurn::Strange)
+                Ok(LinkStep::Strange)
             }
         }
     }

@@ -2,7 +2,7 @@
 
 /// What a turn of a link did.
 #[derive(Clone, Copy, Debug, PartialEq, Eq)]
-pub enum LinkTurn {
+pub enum LinkStep {
     /// The oldest pending command got its reply.
     Took,
     /// No whole reply has arrived.

@@ -10,7 +10,7 @@ use Rattle.mc_link.specs.declared.turns.Tag.{Tag}
 use Rattle.mc_proxy.specs.SessionState.{link_at, with_link}
 use Rattle.mc_proxy.specs.LinkTurns.{Answers, IsLinkTurn}
 use Rattle.mc_proxy.specs.ProxyState.{ProxyState}
-use Rattle.mc_proxy.specs.declared.turns.LinkTurn.TheVariants as turns
+use Rattle.mc_proxy.specs.declared.turns.LinkStep.TheVariants as turns
 use Rattle.mc_account.proofs.LaneLemmas.{link_own, up_is_there}
 use Rattle.mc_stream.specs.Sides.{Brings, Carries, CarriesBy, HowItCame, HowItWent, IsStopOfSide, StopsRead}
 use Rattle.mc_stream.specs.declared.outcomes.Pumped.{Pumped}

@@ -5,7 +5,7 @@ use Rattle.mc_link.specs.declared.turns.Tag.{Tag}
 use Rattle.mc_proxy.specs.SessionState.{link_at, with_link}
 use Rattle.mc_proxy.specs.LinkTurns.{Answers, IsLinkTurn}
 use Rattle.mc_proxy.specs.ProxyState.{ProxyState}
-use Rattle.mc_proxy.specs.declared.turns.LinkTurn.TheVariants.{Idle, Strange}
+use Rattle.mc_proxy.specs.declared.turns.LinkStep.TheVariants.{Idle, Strange}
 
 -- a call for a link
 pub data LinkCall : Type 0 where

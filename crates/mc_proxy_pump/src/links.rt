@@ -6,7 +6,7 @@ ghost use Rattle.mc_proxy_pump.specs.Links.{PumpsLink};
 ghost use Rattle.mc_proxy_pump.specs.LinkRounds.{ReceivesLink, SendsLink, TakesReplies, TakesReply};
 ghost use Rattle.mc_stream.specs.Sides.{pump_of};
 
-use mc_proxy::{LinkTurn, Proxy};
+use mc_proxy::{LinkStep, Proxy};
 use mc_stream::{MAX_ROUNDS, Pumped, Tally, read_once, write_once};
 use std::io::{Read, Write};
 
@@ -140,15 +140,15 @@ fn take_reply(proxy: &mut Proxy, server: usize, woken: &mut Vec<u64>) -> Result<
         return Err(Pumped::Failed);
     }
     match proxy.link_turn(server) {
-        Ok(LinkTurn::Took) => {
+        Ok(LinkStep::Took) => {
             let Some(tag) = tag else {
                 return Err(Pumped::Failed);
             };
             wake(woken, tag.session);
             Ok(true)
         }
-        Ok(LinkTurn::Idle) => Ok(false),
-        Ok(LinkTurn::Strange) => Err(Pumped::Failed),
+        Ok(LinkStep::Idle) => Ok(false),
+        Ok(LinkStep::Strange) => Err(Pumped::Failed),
         Err(_) => Err(Pumped::Failed),
     }
 }

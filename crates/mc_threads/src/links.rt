@@ -5,7 +5,7 @@ ghost use Rattle.mc_threads.specs.Links.{Carries, IsMoved, SameEnds};
 ghost use Rattle.mc_threads.specs.Talks.{HasReplied, StillTalks};
 
 use crate::errors::Ended;
-use mc_proxy::{Emit, LinkTurn, Proxy, Turn};
+use mc_proxy::{Emit, LinkStep, Proxy, Turn};
 use rtrb::{Consumer, Producer};
 
 /// The most requests of a client, answers to it, or replies of a server that are taken in one round.
@@ -42,9 +42,9 @@ fn take_reply(proxy: &mut Proxy, place: usize) -> Result<bool, Ended>
     ensures { MatchResult result (λ _. HasReplied place proxy.old proxy.new) (λ cause. EndsCaller cause) }
 {
     match proxy.link_turn(place)? {
-        LinkTurn::Took => Ok(true),
-        LinkTurn::Idle => Ok(false),
-        LinkTurn::Strange => Err(Ended::Strange),
+        LinkStep::Took => Ok(true),
+        LinkStep::Idle => Ok(false),
+        LinkStep::Strange => Err(Ended::Strange),
     }
 }
 

@@ -5,7 +5,7 @@ use crate::thread_loads::{BUDGET, CLIENTS, ITEMS, MOMENT, ring_of};
 use anyhow::bail;
 use mc_cache::Cache;
 use mc_item::CasCounter;
-use mc_proxy::{Emit, LinkTurn, Proxy, ProxyError, Turn as ClientTurn};
+use mc_proxy::{Emit, LinkStep, Proxy, ProxyError, Turn as ClientTurn};
 use mc_server::{Server, ServerError, Turn};
 use mc_store::{FixedHasher, LruStore};
 use std::alloc::{AllocError, Global};
@@ -134,9 +134,9 @@ fn take_requests(server: &mut Served) -> Result<(), ServerError> {
 fn take_replies(proxy: &mut Proxy, place: usize) -> anyhow::Result<()> {
     for _ in 0..AT_ONCE {
         match proxy.link_turn(place)? {
-            LinkTurn::Took => {}
-            LinkTurn::Idle => break,
-            LinkTurn::Strange => bail!("a strange reply"),
+            LinkStep::Took => {}
+            LinkStep::Idle => break,
+            LinkStep::Strange => bail!("a strange reply"),
         }
     }
     Ok(())

@@ -26,8 +26,8 @@ use Rattle.mc_proxy.specs.ProxyState.{ProxyState, session_at}
 use Rattle.mc_proxy.specs.Turns.{Steps}
 use Rattle.mc_proxy.specs.declared.errors.ProxyError.{ProxyError}
 use Rattle.mc_proxy.specs.declared.errors.ProxyError.TheVariants as causes
-use Rattle.mc_proxy.specs.declared.turns.LinkTurn.{LinkTurn}
-use Rattle.mc_proxy.specs.declared.turns.LinkTurn.TheVariants as replies
+use Rattle.mc_proxy.specs.declared.turns.LinkStep.{LinkStep}
+use Rattle.mc_proxy.specs.declared.turns.LinkStep.TheVariants as replies
 use Rattle.mc_account.proofs.LaneLemmas.{up_is_there}
 use Rattle.mc_account.proofs.OpenSessions.{own_number}
 use Rattle.mc_server.specs.Turns.{waiting_of}
@@ -158,7 +158,7 @@ pub record RestsIdle (place : ℕ) (old new : ProxyState) : Type 0 where
   pub idle : IsIdle (link_at old.links place).waiting (link_at old.links place).unread
   pub same : new ≡ old
 
-pub rests : (place : ℕ) (turn : LinkTurn) (old new : ProxyState) → turn ≢ replies.Took → (HasStrange (link_at old.links place).waiting (link_at old.links place).unread → ⊥)
+pub rests : (place : ℕ) (turn : LinkStep) (old new : ProxyState) → turn ≢ replies.Took → (HasStrange (link_at old.links place).waiting (link_at old.links place).unread → ⊥)
     → IsLinkTurn place turn old new → RestsIdle place old new
 rests place replies.Took old new differ never h = absurd (differ refl)
 rests place replies.Idle old new differ never h = record { idle = h.0; same = h.1 }

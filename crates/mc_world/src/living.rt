@@ -3,7 +3,7 @@ ghost use Rattle.std.specs.Prelude.{◌≡◌, ◌<◌, ◌^◌, ◌↔◌, leng
 
 use crate::errors::{Step, WorldError};
 use crate::pools::Pool;
-use mc_proxy::LinkTurn;
+use mc_proxy::LinkStep;
 use mc_store::Store;
 
 impl<S: Store + Drop> Pool<S> {
@@ -113,7 +113,7 @@ impl<S: Store + Drop> Pool<S> {
         if !self.proxy.is_up(place) {
             return Ok(Step::Nothing);
         }
-        let LinkTurn::Took = self.proxy.link_turn(place)? else {
+        let LinkStep::Took = self.proxy.link_turn(place)? else {
             return Ok(Step::Nothing);
         };
         self.sites[place].replied();

@@ -1,6 +1,6 @@
 use Rattle.std.proofs.Common.{◌∙◌, List, ℕ, Err, ap, sym, subst}
 use Rattle.mc_proxy.specs.LinkTurns.{IsLinkTurn}
-use Rattle.mc_proxy.specs.declared.turns.LinkTurn.TheVariants.{Took, Strange}
+use Rattle.mc_proxy.specs.declared.turns.LinkStep.TheVariants.{Took, Strange}
 use Rattle.mc_stream.specs.declared.outcomes.Pumped.TheVariants.{Failed}
 use Rattle.mc_proxy_pump.specs.LinkCalls.{with_woken}
 use Rattle.mc_proxy_pump.specs.LinkRounds.{TakesReply}

@@ -2,7 +2,7 @@ use Rattle.std.proofs.Common.{rules, ◌≡◌, ◌<◌, true, Some, length, sli
 use Rattle.std.proofs.lemmas.Option.{slice_get_read}
 use Rattle.mc_proxy.specs.SessionState.{link_at}
 use Rattle.mc_proxy.specs.LinkTurns.{Answers, IsLinkTurn}
-use Rattle.mc_proxy.specs.declared.turns.LinkTurn.{LinkTurn}
+use Rattle.mc_proxy.specs.declared.turns.LinkStep.{LinkStep}
 use Rattle.mc_world.specs.Serving.{PoolServes}
 use Rattle.mc_world.proofs.AppliesLemmas.{at_error, gives_up, it_does_not, not_whole, pool_of, rests, site_there}
 use Rattle.mc_world.proofs.MoveLemmas.{get_some}
@@ -37,7 +37,7 @@ replied-requires g c =
     let serves : PoolServes (pool_of c.self.inside.proxy c.self.inside.sites.items) = subst PoolServes (sym c.self.view_is) c.requires.serves in
     let up : (link_at c.self.inside.proxy.links c.args.place).up ≡ true = search rules in
     let answers : Answers c.args.place c.self.inside.proxy c.link_turn.new.self =
-    subst (λ (t : LinkTurn). IsLinkTurn c.args.place t c.self.inside.proxy c.link_turn.new.self) c.in-Took.is c.in_ok-link_turn.ensures.turn in
+    subst (λ (t : LinkStep). IsLinkTurn c.args.place t c.self.inside.proxy c.link_turn.new.self) c.in-Took.is c.in_ok-link_turn.ensures.turn in
     let there : c.args.place < length c.self.inside.sites.items = site_there c.args.place (pool_of c.self.inside.proxy c.self.inside.sites.items) serves up in
     let kept = c.self.inside.sites.ok in
     let at : slice_get c.self.inside.sites.items c.args.place ≡ Some c.index_mut.result.now = slice_get_read _ _ c.args.place c.index_mut.result.now refl (omega (arith, there, kept)) (search rules) in
@@ -49,7 +49,7 @@ returns-clause-takes g c =
     let serves : PoolServes (pool_of c.self.inside.proxy c.self.inside.sites.items) = subst PoolServes (sym c.self.view_is) c.requires.serves in
     let up : (link_at c.self.inside.proxy.links c.args.place).up ≡ true = search rules in
     let answers : Answers c.args.place c.self.inside.proxy c.link_turn.new.self =
-    subst (λ (t : LinkTurn). IsLinkTurn c.args.place t c.self.inside.proxy c.link_turn.new.self) c.in-Took.is c.in_ok-link_turn.ensures.turn in
+    subst (λ (t : LinkStep). IsLinkTurn c.args.place t c.self.inside.proxy c.link_turn.new.self) c.in-Took.is c.in_ok-link_turn.ensures.turn in
     let there : c.args.place < length c.self.inside.sites.items = site_there c.args.place (pool_of c.self.inside.proxy c.self.inside.sites.items) serves up in
     let kept = c.self.inside.sites.ok in
     let at : slice_get c.self.inside.sites.items c.args.place ≡ Some c.index_mut.result.now = slice_get_read _ _ c.args.place c.index_mut.result.now refl (omega (arith, there, kept)) (search rules) in
