@@ -16,8 +16,8 @@ use Rattle.mc_proxy.specs.SessionNoting.{noted_at, noted_in}
 use Rattle.mc_proxy.specs.SessionState.{SessionState, Unanswered, answered, link_at}
 use Rattle.mc_proxy.specs.SessionTurns.{IsFed, IsTurn}
 use Rattle.mc_proxy.specs.declared.session_turns.Emit.TheVariants as emits
-use Rattle.mc_proxy.specs.declared.session_turns.Turn.{Turn}
-use Rattle.mc_proxy.specs.declared.session_turns.Turn.TheVariants as turns
+use Rattle.mc_proxy.specs.declared.session_turns.SessionTurn.{SessionTurn}
+use Rattle.mc_proxy.specs.declared.session_turns.SessionTurn.TheVariants as turns
 use Rattle.mc_proxy.specs.LinkTurns.{Answers, lost_at}
 use Rattle.mc_proxy.specs.Noting.{all_lost, noted}
 use Rattle.mc_proxy.specs.ProxyState.{ProxyState, Sessions, sent_by, session_at, session_in, updated}
@@ -61,7 +61,7 @@ answered-fed number piece old new steps m =
     answered_step number old new steps.before steps.after steps.was steps.is (ap (λ (s : SessionState). answered s) steps.step.1.all_else) m
 
 -- `turn`: a request that is taken is not answered yet
-turn_answers : (number : ℕ) (turn : Turn) (ring : RingState) (losses : Losses) (links now : List LinkState) (before after : SessionState) → IsTurn number turn ring losses links now before after
+turn_answers : (number : ℕ) (turn : SessionTurn) (ring : RingState) (losses : Losses) (links now : List LinkState) (before after : SessionState) → IsTurn number turn ring losses links now before after
     → answered after ≡ answered before
 turn_answers number turns.Took ring losses links now before after step =
     let more : length after.unanswered ≡ length before.unanswered + 1 = ap (λ (us : List Unanswered). length us) step.1.unanswered ∙ length_push before.unanswered _ in
@@ -70,7 +70,7 @@ turn_answers number turns.Idle ring losses links now before after step = ap (λ 
 turn_answers number turns.Waiting ring losses links now before after step = ap (λ (s : SessionState). answered s) step.1.1
 turn_answers number turns.Closing ring losses links now before after step = ap (λ (s : SessionState). answered s) step.1.1
 
-pub answered-turn : (number : ℕ) (turn : Turn) (ring : RingState) (losses : Losses) (old new : ProxyState) → Steps number old new (IsTurn number turn ring losses) → (m : ℕ) → answered_at new m ≡ answered_at old m
+pub answered-turn : (number : ℕ) (turn : SessionTurn) (ring : RingState) (losses : Losses) (old new : ProxyState) → Steps number old new (IsTurn number turn ring losses) → (m : ℕ) → answered_at new m ≡ answered_at old m
 answered-turn number turn ring losses old new steps m =
     answered_step number old new steps.before steps.after steps.was steps.is (turn_answers number turn ring losses old.links new.links steps.before steps.after steps.step) m
 

@@ -15,8 +15,8 @@ use Rattle.mc_proxy.specs.Sending.{at_once}
 use Rattle.mc_proxy.specs.SessionState.{SessionState, fresh_session, link_at}
 use Rattle.mc_proxy.specs.SessionTurns.{IsFed, IsTurn, IsUnchanged}
 use Rattle.mc_proxy.specs.declared.session_turns.Emit.TheVariants as emits
-use Rattle.mc_proxy.specs.declared.session_turns.Turn.{Turn}
-use Rattle.mc_proxy.specs.declared.session_turns.Turn.TheVariants as turns
+use Rattle.mc_proxy.specs.declared.session_turns.SessionTurn.{SessionTurn}
+use Rattle.mc_proxy.specs.declared.session_turns.SessionTurn.TheVariants as turns
 use Rattle.mc_proxy.specs.ProxyState.{ProxyState, Sessions, output_of, sent_by, session_at, session_in, updated, with_fresh, without}
 use Rattle.mc_proxy.specs.Turns.{Alone, Steps}
 use Rattle.mc_account.specs.Lanes.{Lane, LinkHolds}
@@ -165,14 +165,15 @@ holds-took texts sent order lanes number old new h steps =
     h
 
 -- a turn that took nothing
-unchanged : (number : ℕ) (turn : Turn) (ring : RingState) (losses : Losses) (links now : List LinkState) (before after : SessionState) → turn ≢ turns.Took
+unchanged : (number : ℕ) (turn : SessionTurn) (ring : RingState) (losses : Losses) (links now : List LinkState) (before after : SessionState)
+    → turn ≢ turns.Took
     → IsTurn number turn ring losses links now before after → IsUnchanged links now before after
 unchanged number turns.Took ring losses links now before after differ step = absurd (differ refl)
 unchanged number turns.Idle ring losses links now before after differ step = step.1
 unchanged number turns.Waiting ring losses links now before after differ step = step.1
 unchanged number turns.Closing ring losses links now before after differ step = step.1
 
-pub holds-idle_turn : (texts sent : ℕ → List ℕ) (order : Order) (lanes : ℕ → Lane) (number : ℕ) (turn : Turn) (old new : ProxyState)
+pub holds-idle_turn : (texts sent : ℕ → List ℕ) (order : Order) (lanes : ℕ → Lane) (number : ℕ) (turn : SessionTurn) (old new : ProxyState)
     → ProxyHolds texts sent order lanes old → turn ≢ turns.Took → Steps number old new (IsTurn number turn old.ring old.losses) → ProxyHolds texts sent order lanes new
 holds-idle_turn texts sent order lanes number turn old new h differ steps =
     let same = unchanged number turn old.ring old.losses old.links new.links steps.before steps.after differ steps.step in

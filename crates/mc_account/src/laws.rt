@@ -15,8 +15,8 @@ ghost use Rattle.mc_proxy.specs.Sending.{at_once};
 ghost use Rattle.mc_proxy.specs.SessionState.{answered, link_at, with_link};
 ghost use Rattle.mc_proxy.specs.SessionTurns.{IsFed, IsTurn};
 ghost use Rattle.mc_proxy.specs.declared.session_turns.Emit.TheVariants as emits;
-ghost use Rattle.mc_proxy.specs.declared.session_turns.Turn.{Turn};
-ghost use Rattle.mc_proxy.specs.declared.session_turns.Turn.TheVariants.{Took};
+ghost use Rattle.mc_proxy.specs.declared.session_turns.SessionTurn.{SessionTurn};
+ghost use Rattle.mc_proxy.specs.declared.session_turns.SessionTurn.TheVariants.{Took};
 ghost use Rattle.mc_proxy.specs.Joins.{JoinsServer};
 ghost use Rattle.mc_proxy.specs.LinkTurns.{Answers, lost_at};
 ghost use Rattle.mc_proxy.specs.ProxyState.{ProxyState, opened, output_of, sent_by, session_at, with_fresh, without};
@@ -65,7 +65,7 @@ pub fn taken_requests_hold()
 
 /// A `turn` that took nothing keeps the account, and so does an `emit` that emitted nothing.
 pub fn idle_calls_hold()
-    ensures turn { (texts sent : ℕ → List ℕ) (order : Order) (lanes : ℕ → Lane) (number : ℕ) (turn : Turn) (old new : ProxyState)
+    ensures turn { (texts sent : ℕ → List ℕ) (order : Order) (lanes : ℕ → Lane) (number : ℕ) (turn : SessionTurn) (old new : ProxyState)
         → ProxyHolds texts sent order lanes old → turn ≢ Took → Steps number old new (IsTurn number turn old.ring old.losses)
         → ProxyHolds texts sent order lanes new }
     ensures emit { (texts sent : ℕ → List ℕ) (order : Order) (lanes : ℕ → Lane) (number : ℕ) (old new : ProxyState)
@@ -171,7 +171,7 @@ pub fn answered_requests_are_counted()
         → answered step.after ≡ answered step.before + 1 }
     ensures idle { (number : ℕ) (old new : ProxyState) → Steps number old new (Alone (IsEmit emits.Idle))
         → (other : ℕ) → answered_at new other ≡ answered_at old other }
-    ensures turn { (number : ℕ) (turn : Turn) (ring : RingState) (losses : Losses) (old new : ProxyState) → Steps number old new (IsTurn number turn ring losses)
+    ensures turn { (number : ℕ) (turn : SessionTurn) (ring : RingState) (losses : Losses) (old new : ProxyState) → Steps number old new (IsTurn number turn ring losses)
         → (other : ℕ) → answered_at new other ≡ answered_at old other }
     ensures fed { (number : ℕ) (piece : List ℕ) (old new : ProxyState) → Steps number old new (Alone (IsFed piece))
         → (other : ℕ) → answered_at new other ≡ answered_at old other }

@@ -6,7 +6,7 @@ use crate::errors::JobError;
 use crate::keys::{Stock, append_key, append_number, by_rank, large_len, small_len};
 use crate::randoms::Random;
 use crate::served::{Held, opened, turn_all};
-use mc_proxy::{Emit, LinkStep, Proxy, Turn};
+use mc_proxy::{Emit, LinkStep, Proxy, SessionTurn};
 use mc_ring::{Address, Ring};
 use std::alloc::{AllocError, Global};
 
@@ -123,7 +123,7 @@ impl Pool {
             .map_err(|_| JobError::Refused)?;
         for _ in 0..u64::MAX {
             match self.proxy.turn(client) {
-                Ok(Turn::Took) => {}
+                Ok(SessionTurn::Took) => {}
                 Ok(_) => break,
                 Err(_) => return Err(JobError::Refused),
             }

@@ -1,7 +1,9 @@
 //! The high-water marks at which a session's turns wait, to the byte.
 
 use crate::pools::{ONE, pool};
-use mc_proxy::{Emit, LINK_MARK, LinkStep, MAX_UNANSWERED, Proxy, ProxyError, Turn, UNSENT_MARK};
+use mc_proxy::{
+    Emit, LINK_MARK, LinkStep, MAX_UNANSWERED, Proxy, ProxyError, SessionTurn, UNSENT_MARK,
+};
 use mc_server_tests::with_value;
 use std::test::Fail;
 
@@ -11,7 +13,7 @@ const GET: &[u8] = b"get a\r\n";
 const SIXTEENS: usize = 65_536;
 
 /// The result of the turn after a request.
-fn ask(proxy: &mut Proxy, request: &[u8]) -> Result<Turn, ProxyError> {
+fn ask(proxy: &mut Proxy, request: &[u8]) -> Result<SessionTurn, ProxyError> {
     proxy.feed(0, request)?;
     proxy.turn(0)
 }
@@ -20,7 +22,7 @@ fn ask(proxy: &mut Proxy, request: &[u8]) -> Result<Turn, ProxyError> {
 fn is_taken(proxy: &mut Proxy, request: &[u8], times: usize) -> Result<bool, ProxyError> {
     let mut is_so = true;
     for _ in 0..times {
-        is_so &= ask(proxy, request)? == Turn::Took;
+        is_so &= ask(proxy, request)? == SessionTurn::Took;
     }
     Ok(is_so)
 }
@@ -32,13 +34,13 @@ fn is_reply(proxy: &mut Proxy, reply: &[u8]) -> Result<bool, ProxyError> {
 }
 
 /// The result of the turn after this number of bytes were sent to the client.
-fn turn_after(proxy: &mut Proxy, sent: usize) -> Result<Turn, ProxyError> {
+fn turn_after(proxy: &mut Proxy, sent: usize) -> Result<SessionTurn, ProxyError> {
     proxy.taken_out(0, sent.min(proxy.output(0).len()));
     proxy.turn(0)
 }
 
 /// The result of the turn after this number of bytes were sent to the server.
-fn turn_after_link(proxy: &mut Proxy, sent: usize) -> Result<Turn, ProxyError> {
+fn turn_after_link(proxy: &mut Proxy, sent: usize) -> Result<SessionTurn, ProxyError> {
     proxy.link_taken_out(0, sent.min(proxy.link_output(0).len()));
     proxy.turn(0)
 }
@@ -46,19 +48,19 @@ fn turn_after_link(proxy: &mut Proxy, sent: usize) -> Result<Turn, ProxyError> {
 /// 1,024 requests are unanswered: the next one waits until an answer is emitted.
 fn unanswered(proxy: &mut Proxy) -> Result<bool, ProxyError> {
     let are_taken = is_taken(proxy, GET, MAX_UNANSWERED)?;
-    let waits = ask(proxy, GET)? == Turn::Waiting;
-    let still = is_reply(proxy, b"END\r\n")? && proxy.turn(0)? == Turn::Waiting;
+    let waits = ask(proxy, GET)? == SessionTurn::Waiting;
+    let still = is_reply(proxy, b"END\r\n")? && proxy.turn(0)? == SessionTurn::Waiting;
     let is_out = proxy.emit(0)? == Emit::Done && proxy.output(0) == b"END\r\n".as_slice();
-    let then = proxy.turn(0)? == Turn::Took && proxy.turn(0)? == Turn::Idle;
+    let then = proxy.turn(0)? == SessionTurn::Took && proxy.turn(0)? == SessionTurn::Idle;
     Ok(are_taken && waits && still && is_out && then)
 }
 
 /// Eight sets are unsent, 168 bytes more than the mark: the request after them waits until 169 are sent.
 fn unsent_on_a_link(proxy: &mut Proxy, set: &[u8]) -> Result<bool, ProxyError> {
     let are_taken = is_taken(proxy, set, 8)? && proxy.link_output(0).len() == LINK_MARK + 168;
-    let waits = ask(proxy, GET)? == Turn::Waiting;
-    let still = turn_after_link(proxy, 168)? == Turn::Waiting;
-    let then = turn_after_link(proxy, 1)? == Turn::Took;
+    let waits = ask(proxy, GET)? == SessionTurn::Waiting;
+    let still = turn_after_link(proxy, 168)? == SessionTurn::Waiting;
+    let then = turn_after_link(proxy, 1)? == SessionTurn::Took;
     Ok(are_taken && waits && still && then)
 }
 
@@ -70,9 +72,9 @@ fn unsent_to_a_client(proxy: &mut Proxy, answer: &[u8]) -> Result<bool, ProxyErr
         are_out &= is_asked && is_reply(proxy, answer)? && proxy.emit(0)? == Emit::Done;
     }
     let are_all = are_out && proxy.output(0).len() == UNSENT_MARK + 104;
-    let waits = ask(proxy, GET)? == Turn::Waiting;
-    let still = turn_after(proxy, 104)? == Turn::Waiting;
-    let then = turn_after(proxy, 1)? == Turn::Took;
+    let waits = ask(proxy, GET)? == SessionTurn::Waiting;
+    let still = turn_after(proxy, 104)? == SessionTurn::Waiting;
+    let then = turn_after(proxy, 1)? == SessionTurn::Took;
     Ok(are_all && waits && still && then)
 }
 

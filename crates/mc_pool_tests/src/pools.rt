@@ -4,7 +4,7 @@
 //! `tests/gate/refused.py` refuses each of them in turn.
 
 use mc_proxy::LinkStep::{self, Idle, Strange, Took};
-use mc_proxy::{Emit, Losses, Proxy, ProxyError, Turn};
+use mc_proxy::{Emit, Losses, Proxy, ProxyError, SessionTurn};
 use mc_ring::{Address, Point, Ring, RingError};
 use mc_server_tests::again;
 use std::alloc::Global;
@@ -362,7 +362,7 @@ fn feed(proxy: &mut Proxy, session: u64, bytes: &[u8]) -> Result<(), ProxyError>
     again!(proxy.feed(session, bytes))
 }
 
-fn turn(proxy: &mut Proxy, session: u64) -> Result<Turn, ProxyError> {
+fn turn(proxy: &mut Proxy, session: u64) -> Result<SessionTurn, ProxyError> {
     again!(proxy.turn(session))
 }
 
@@ -416,7 +416,7 @@ const MANY: usize = 10;
 /// How many requests a session takes, until it takes no more.
 fn taken(proxy: &mut Proxy, session: u64) -> Result<usize, ProxyError> {
     for count in 0..MANY {
-        if turn(proxy, session)? != Turn::Took {
+        if turn(proxy, session)? != SessionTurn::Took {
             return Ok(count);
         }
     }

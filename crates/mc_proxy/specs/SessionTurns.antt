@@ -11,8 +11,8 @@ use Rattle.mc_route.specs.declared.losses.Losses.{Losses}
 use Rattle.mc_link.specs.LinkState.{LinkState}
 use Rattle.mc_proxy.specs.SessionState.{SessionState}
 use Rattle.mc_proxy.specs.Sending.{at_once, handed, is_marked}
-use Rattle.mc_proxy.specs.declared.session_turns.Turn.{Turn}
-use Rattle.mc_proxy.specs.declared.session_turns.Turn.TheVariants.{Took, Idle, Waiting, Closing}
+use Rattle.mc_proxy.specs.declared.session_turns.SessionTurn.{SessionTurn}
+use Rattle.mc_proxy.specs.declared.session_turns.SessionTurn.TheVariants.{Took, Idle, Waiting, Closing}
 
 -- a piece of a session's text has arrived; if the session is closed to input, it is dropped
 pub record IsFed (piece : List ℕ) (before after : SessionState) : Type 0 where
@@ -45,7 +45,7 @@ abbrev pub IsUnchanged : List LinkState → List LinkState → SessionState → 
 IsUnchanged links now before after = (now ≡ links) × (after ≡ before)
 
 -- what a turn of the session of a number does, over the links of a ring
-abbrev pub IsTurn : ℕ → Turn → RingState → Losses → List LinkState → List LinkState → SessionState → SessionState → Type 0
+abbrev pub IsTurn : ℕ → SessionTurn → RingState → Losses → List LinkState → List LinkState → SessionState → SessionState → Type 0
 IsTurn number Took ring losses links now before after = (what : Taken) × Takes number ring losses links now before after what
 IsTurn number Idle ring losses links now before after = HasNone before.reader before.reader × IsUnchanged links now before after
 IsTurn number Waiting ring losses links now before after = IsHeldUp ring links before × IsUnchanged links now before after

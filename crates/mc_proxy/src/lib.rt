@@ -60,6 +60,6 @@ pub use proxies::Proxy;
 pub use rows::lost_store_before_a_get;
 pub use session_errors::SessionError;
 pub use session_limits::{LINK_MARK, MAX_UNANSWERED, UNSENT_MARK};
-pub use session_turns::{Emit, Turn};
+pub use session_turns::{Emit, SessionTurn};
 pub use sessions::Session;
 pub use turns::LinkStep;

@@ -3,7 +3,7 @@ ghost use Rattle.std.specs.Prelude.{◌≡◌, ◌≢◌, ◌+◌, ◌-◌, ◌^
 
 use crate::errors::ProxyError;
 use crate::limits::MAX_SESSIONS;
-use crate::session_turns::{Emit, Turn};
+use crate::session_turns::{Emit, SessionTurn};
 use crate::sessions::Session;
 use mc_link::Link;
 use mc_ring::Ring;
@@ -130,7 +130,7 @@ impl Proxy {
     /// At an error the request is not taken, and no command was sent. If none has arrived whole, or the first must wait for a mark, no memory
     /// is taken.
     #[tactic(auto, using(mc_table::proofs::NumberedEntryLemmas::updated_same))]
-    pub fn turn(&mut self, number: u64) -> Result<Turn, ProxyError>
+    pub fn turn(&mut self, number: u64) -> Result<SessionTurn, ProxyError>
         ensures turn { IfOk result (λ turn. Steps number self.old self.new (IsTurn number turn self.old.ring self.old.losses)) }
         ensures memory { IsErrOf result ProxyError.Memory → IfSome (session_at self.old number) (IsReady self.old.ring self.old.links) }
         ensures no_session { IsErrOf result ProxyError.NoSession ↔ (session_at self.old number ≡ None) }

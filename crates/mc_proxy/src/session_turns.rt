@@ -2,7 +2,7 @@
 
 /// What a turn of a session did.
 #[derive(Clone, Copy, Debug, PartialEq, Eq)]
-pub enum Turn {
+pub enum SessionTurn {
     /// One request or fault was taken, and its commands were sent, each to its owner. A command whose link is down is lost.
     Took,
     /// There is no whole request or fault until more bytes arrive.

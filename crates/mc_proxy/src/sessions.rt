@@ -6,7 +6,7 @@ ghost use Rattle.mc_proxy.specs.SessionState.{states};
 use crate::sending::{is_any_marked, is_held_up, prepare, send_all, start_at_front};
 use crate::session_errors::SessionError;
 use crate::session_limits::{MAX_UNANSWERED, UNSENT_MARK};
-use crate::session_turns::{Emit, Turn};
+use crate::session_turns::{Emit, SessionTurn};
 use crate::stores::{may_store, send_store};
 use crate::unanswered::Unanswered;
 use mc_link::{Link, Tag};
@@ -102,7 +102,7 @@ impl Session {
         losses: Losses,
         links: &mut [Link],
         queue: &mut VecDeque<Routed>,
-    ) -> Result<Turn, SessionError>
+    ) -> Result<SessionTurn, SessionError>
         requires { queue.old.items ≡ [] }
         ensures turn { IfOk result (λ turn. IsTurn number turn ring.now losses (states links.old) (states links.new) self.old self.new) }
         ensures cause { OnErr result (IsReady ring.now (states links.old) self.old) }
@@ -112,7 +112,7 @@ impl Session {
         ensures emptied { queue.new.items ≡ [] }
     {
         if self.reader.is_short() {
-            return Ok(Turn::Idle);
+            return Ok(SessionTurn::Idle);
         }
         let Some(get) = self.reader.peek_get() else {
             return self.turn_lent(alloc, number, ring, losses, links, queue);
@@ -129,13 +129,13 @@ impl Session {
                 with_cas,
             };
             if self.must_wait(links, &asked, ring) {
-                return Ok(Turn::Waiting);
+                return Ok(SessionTurn::Waiting);
             }
             start_at_front(alloc, queue);
             (route(alloc, &asked, ring, queue)?, front)
         };
         self.take(alloc, number, losses, links, queue, kept, front)?;
-        Ok(Turn::Took)
+        Ok(SessionTurn::Took)
     }
 
     /// Does a turn by [`Reader::peek`], if the turn did not see at once a good `get` or `gets`, or that nothing is whole.
@@ -147,7 +147,7 @@ impl Session {
         losses: Losses,
         links: &mut [Link],
         queue: &mut VecDeque<Routed>,
-    ) -> Result<Turn, SessionError>
+    ) -> Result<SessionTurn, SessionError>
         requires { queue.old.items ≡ [] }
         ensures turn { IfOk result (λ turn. IsTurn number turn ring.now losses (states links.old) (states links.new) self.old self.new) }
         ensures cause { OnErr result (IsReady ring.now (states links.old) self.old) }
@@ -175,7 +175,7 @@ impl Session {
         ring: &Ring,
         losses: Losses,
         links: &mut [Link],
-    ) -> Result<Option<Turn>, SessionError>
+    ) -> Result<Option<SessionTurn>, SessionError>
         ensures turn { IfOk result (λ turn. IfSome turn (λ turn. IsTurn number turn ring.now losses (states links.old) (states links.new) self.old self.new)) }
         ensures none { IfOk result (λ turn. IfNone turn ((states links.new ≡ states links.old) × (self.new ≡ self.old))) }
         ensures cause { OnErr result (IsReady ring.now (states links.old) self.old) }
@@ -186,10 +186,10 @@ impl Session {
         let marked = self.is_marked();
         let taken = self.taken;
         let front = match &self.reader.peek() {
-            Peek::Closed => return Ok(Some(Turn::Closing)),
-            Peek::More => return Ok(Some(Turn::Idle)),
+            Peek::Closed => return Ok(Some(SessionTurn::Closing)),
+            Peek::More => return Ok(Some(SessionTurn::Idle)),
             Peek::First(asked, _) if is_held_up(marked, links, asked, ring) => {
-                return Ok(Some(Turn::Waiting));
+                return Ok(Some(SessionTurn::Waiting));
             }
             Peek::First(asked, front) => {
                 let unanswered = &mut self.unanswered;
@@ -201,7 +201,7 @@ impl Session {
         };
         self.reader.consume(front);
         self.taken += 1;
-        Ok(Some(Turn::Took))
+        Ok(Some(SessionTurn::Took))
     }
 
     /// Does a turn on any request or fault.
@@ -214,7 +214,7 @@ impl Session {
         losses: Losses,
         links: &mut [Link],
         queue: &mut VecDeque<Routed>,
-    ) -> Result<Turn, SessionError>
+    ) -> Result<SessionTurn, SessionError>
         requires { queue.old.items ≡ [] }
         ensures turn { IfOk result (λ turn. IsTurn number turn ring.now losses (states links.old) (states links.new) self.old self.new) }
         ensures cause { OnErr result (IsReady ring.now (states links.old) self.old) }
@@ -224,16 +224,18 @@ impl Session {
         ensures emptied { queue.new.items ≡ [] }
     {
         let (kept, front) = match &self.reader.peek() {
-            Peek::Closed => return Ok(Turn::Closing),
-            Peek::More => return Ok(Turn::Idle),
-            Peek::First(asked, _) if self.must_wait(links, asked, ring) => return Ok(Turn::Waiting),
+            Peek::Closed => return Ok(SessionTurn::Closing),
+            Peek::More => return Ok(SessionTurn::Idle),
+            Peek::First(asked, _) if self.must_wait(links, asked, ring) => return Ok(
+                SessionTurn::Waiting,
+            ),
             Peek::First(asked, front) => {
                 start_at_front(alloc, queue);
                 (route(alloc, asked, ring, queue)?, *front)
             }
         };
         self.take(alloc, number, losses, links, queue, kept, front)?;
-        Ok(Turn::Took)
+        Ok(SessionTurn::Took)
     }
 
     /// Returns whether the session has reached a mark of its own, or a link that the request needs has.

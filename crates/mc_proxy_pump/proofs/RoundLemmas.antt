@@ -14,8 +14,8 @@ use Rattle.mc_proxy.specs.SessionState.{SessionState, Unanswered}
 use Rattle.mc_proxy.specs.SessionTurns.{IsFed, IsHeldUp, IsTurn, Takes}
 use Rattle.mc_proxy.specs.declared.session_limits.TheConstants.{UNSENT_MARK}
 use Rattle.mc_proxy.specs.declared.session_turns.Emit.TheVariants as emits
-use Rattle.mc_proxy.specs.declared.session_turns.Turn.{Turn}
-use Rattle.mc_proxy.specs.declared.session_turns.Turn.TheVariants as turns
+use Rattle.mc_proxy.specs.declared.session_turns.SessionTurn.{SessionTurn}
+use Rattle.mc_proxy.specs.declared.session_turns.SessionTurn.TheVariants as turns
 use Rattle.mc_proxy.specs.ProxyState.{ProxyState, output_of, sent_by, session_at, unanswered_of}
 use Rattle.mc_proxy.specs.Turns.{Alone, HasAnswer, Steps, hides_loss_at, waiting_of}
 use Rattle.mc_proxy.proofs.StepLemmas.{sent_at, steps_at, steps_still}
@@ -28,7 +28,8 @@ use Rattle.mc_proxy_pump.specs.Rounds.{HasAnswered, HowMany, IsSentOf, Receives,
 use Rattle.mc_proxy_pump.proofs.StretchLemmas.{is_open, stretch_none, stretch_one, the_open}
 
 -- a turn is a call
-pub stretch_turned : (number : ℕ) (turn : Turn) (old new : ProxyState) (missed : Option ℕ) → Steps number old new (IsTurn number turn old.ring old.losses)
+pub stretch_turned : (number : ℕ) (turn : SessionTurn) (old new : ProxyState) (missed : Option ℕ)
+    → Steps number old new (IsTurn number turn old.ring old.losses)
     → Stretch number old new [] [] missed missed
 stretch_turned number turn old new missed steps =
     stretch_one number (Turned turn) old new missed steps (is_open (session_at new number) steps.after (steps_at number old new (IsTurn number turn old.ring old.losses) steps))
@@ -50,7 +51,7 @@ took_one number old new steps =
     subst P (sym (steps_at number old new (IsTurn number turns.Took old.ring old.losses) steps)) (subst Q (sym steps.was) less)
 
 -- a turn that takes nothing changes nothing, and says why
-turn_stops : (number : ℕ) (turn : Turn) (old new : ProxyState) (stop : (s : SessionState) → session_at old number ≡ Some s → StopsAt turn old (Some s))
+turn_stops : (number : ℕ) (turn : SessionTurn) (old new : ProxyState) (stop : (s : SessionState) → session_at old number ≡ Some s → StopsAt turn old (Some s))
     → new ≡ old → IsSome (session_at old number) → (StopsAt turn new (session_at new number)) × (work_of (session_at new number) ≤ work_of (session_at old number))
 turn_stops number turn old new stop same there =
     let own = the_open (session_at old number) there in
@@ -222,7 +223,7 @@ no_bytes : (bytes : List ℕ) → length bytes ≡ 0 → bytes ≡ []
 no_bytes [] e = refl
 no_bytes (b ∷ bs) e = absurd (omega (arith, e))
 
-no_more : (turn : Turn) (ended : Bool) (proxy : ProxyState) (o : Option SessionState) → StopsAt turn proxy o → ends_by turn ended ≡ true
+no_more : (turn : SessionTurn) (ended : Bool) (proxy : ProxyState) (o : Option SessionState) → StopsAt turn proxy o → ends_by turn ended ≡ true
     → (waiting_of o ≡ []) × ((ended ≡ true) ⊎ (is_closed_at o ≡ true))
 no_more turns.Took ended proxy o h e = absurd h
 no_more turns.Idle ended proxy o h e = (h.0, inl e)
@@ -230,7 +231,7 @@ no_more turns.Waiting ended proxy o h e = absurd cc
 no_more turns.Closing ended proxy o h e = (h.0, inr h.1)
 
 -- if all is answered and sent and nothing more will arrive, the session is over
-pub over : (turn : Turn) (ended answer : Bool) (proxy : ProxyState) (a b : Option SessionState) → StopsAt turn proxy a → IsSentOf a b
+pub over : (turn : SessionTurn) (ended answer : Bool) (proxy : ProxyState) (a b : Option SessionState) → StopsAt turn proxy a → IsSentOf a b
     → answer ≡ ((length (output_of b) == 0) && ((unanswered_of b == 0) && ends_by turn ended)) → answer ≡ true → IsOver ended b
 over turn ended answer proxy a b h same is e =
     let first = both (length (output_of b) == 0) ((unanswered_of b == 0) && ends_by turn ended) answer is e in
@@ -247,7 +248,7 @@ over turn ended answer proxy a b h same is e =
     }
 
 -- if turns stopped, none waits or the first waits for a mark
-stopped_at : (turn : Turn) (proxy : ProxyState) (session : Option SessionState) → StopsAt turn proxy session → (waiting_of session ≡ []) ⊎ IsHeldUpAt proxy.ring proxy.links session
+stopped_at : (turn : SessionTurn) (proxy : ProxyState) (session : Option SessionState) → StopsAt turn proxy session → (waiting_of session ≡ []) ⊎ IsHeldUpAt proxy.ring proxy.links session
 stopped_at turns.Took proxy session h = absurd h
 stopped_at turns.Idle proxy session h = inl h.0
 stopped_at turns.Waiting proxy session h = inr h
@@ -259,7 +260,7 @@ held_waits ring links None h none = h
 held_waits ring links (Some s) h none = let clash : h.what ∷ h.others ≡ [] = sym h.first ∙ none in absurd cc
 
 -- if nothing waits or is unsent, and the input is read no further, it has ended
-not_read : (turn : Turn) (ended marked : Bool) (proxy : ProxyState) (o : Option SessionState) → StopsAt turn proxy o → reads_by turn ended marked ≡ false → marked ≡ false → waiting_of o ≡ []
+not_read : (turn : SessionTurn) (ended marked : Bool) (proxy : ProxyState) (o : Option SessionState) → StopsAt turn proxy o → reads_by turn ended marked ≡ false → marked ≡ false → waiting_of o ≡ []
     → ends_by turn ended ≡ true
 not_read turns.Took ended marked proxy o h e unmarked none = absurd h
 not_read turns.Idle true marked proxy o h e unmarked none = refl
@@ -274,7 +275,7 @@ unmarked [] none = refl
 unmarked (b ∷ bs) none = absurd cc
 
 -- if the session is not over, and the input is read no further, it is stuck
-pub stuck : (turn : Turn) (ended marked answer : Bool) (proxy : ProxyState) (o : Option SessionState) → StopsAt turn proxy o → HasAnswered o
+pub stuck : (turn : SessionTurn) (ended marked answer : Bool) (proxy : ProxyState) (o : Option SessionState) → StopsAt turn proxy o → HasAnswered o
     → answer ≡ ((length (output_of o) == 0) && ((unanswered_of o == 0) && ends_by turn ended)) → answer ≡ false
     → reads_by turn ended marked ≡ false → (output_of o ≡ [] → marked ≡ false) → IsStuck ended proxy o
 stuck turn ended marked answer proxy o h answered is e unread unmarked = record {
@@ -289,7 +290,7 @@ stuck turn ended marked answer proxy o h answered is e unread unmarked = record 
 }
 
 -- if the input is read on, no request waits, and less is unsent than the mark
-pub read_on : (turn : Turn) (ended marked answer : Bool) (proxy : ProxyState) (o : Option SessionState) → StopsAt turn proxy o → answer ≡ reads_by turn ended marked → answer ≡ true
+pub read_on : (turn : SessionTurn) (ended marked answer : Bool) (proxy : ProxyState) (o : Option SessionState) → StopsAt turn proxy o → answer ≡ reads_by turn ended marked → answer ≡ true
     → (StopsAt turns.Idle proxy o) × (ended ≡ false) × (marked ≡ false)
 read_on turns.Took ended marked answer proxy o h is e = absurd h
 read_on turns.Idle true marked answer proxy o h is e = let clash : true ≡ false = sym e ∙ is in absurd cc

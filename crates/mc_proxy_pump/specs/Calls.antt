@@ -4,7 +4,7 @@ use Rattle.mc_proxy.specs.Emits.{IsEmit}
 use Rattle.mc_proxy.specs.SessionTurns.{IsFed, IsTurn}
 use Rattle.mc_proxy.specs.declared.session_limits.TheConstants.{UNSENT_MARK}
 use Rattle.mc_proxy.specs.declared.session_turns.Emit.TheVariants.{Done, Idle}
-use Rattle.mc_proxy.specs.declared.session_turns.Turn.{Turn}
+use Rattle.mc_proxy.specs.declared.session_turns.SessionTurn.{SessionTurn}
 use Rattle.mc_proxy.specs.ProxyState.{ProxyState, output_of, sent_by, session_at}
 use Rattle.mc_proxy.specs.Turns.{Alone, Steps, hides_loss_at, waiting_of}
 use Rattle.mc_proxy_pump.specs.Tallies.{counted}
@@ -14,7 +14,7 @@ pub data Call : Type 0 where
   -- it is fed these bytes, which its client sent
   Fed : List ℕ → Call
   -- it takes a turn
-  Turned : Turn → Call
+  Turned : SessionTurn → Call
   -- an answer is emitted, which hides a loss or not
   Emitted : Bool → Call
   -- no answer is known, and none is emitted

@@ -2,8 +2,8 @@
 use Rattle.std.specs.Prelude.{◌≡◌, ℕ, ◌+◌, ◌*◌, ◌<◌, ◌≤◌, ◌⊎◌, Bool, true, false, not, ◌&&◌, List, [], length, Option, None, Result}
 use Rattle.mc_proxy.specs.SessionState.{SessionState}
 use Rattle.mc_proxy.specs.declared.session_limits.TheConstants.{UNSENT_MARK}
-use Rattle.mc_proxy.specs.declared.session_turns.Turn.{Turn}
-use Rattle.mc_proxy.specs.declared.session_turns.Turn.TheVariants as turns
+use Rattle.mc_proxy.specs.declared.session_turns.SessionTurn.{SessionTurn}
+use Rattle.mc_proxy.specs.declared.session_turns.SessionTurn.TheVariants as turns
 use Rattle.mc_proxy.specs.ProxyState.{ProxyState, output_of, session_at, unanswered_of}
 use Rattle.mc_proxy.specs.Turns.{waiting_of}
 use Rattle.mc_stream.specs.Sides.{HowItCame, HowItWent}
@@ -16,20 +16,20 @@ abbrev pub work_of : Option SessionState → ℕ
 work_of session = 2 * length (waiting_of session) + unanswered_of session
 
 -- why no more is taken
-abbrev pub StopsAt : Turn → ProxyState → Option SessionState → Type 0
+abbrev pub StopsAt : SessionTurn → ProxyState → Option SessionState → Type 0
 StopsAt turns.Took proxy session = ⊥
 StopsAt turns.Idle proxy session = (waiting_of session ≡ []) × (is_closed_at session ≡ false)
 StopsAt turns.Waiting proxy session = IsHeldUpAt proxy.ring proxy.links session
 StopsAt turns.Closing proxy session = (waiting_of session ≡ []) × (is_closed_at session ≡ true)
 
 -- whether nothing more will arrive, given why no more is taken: the input has ended, or is read no further
-abbrev pub ends_by : Turn → (ended : Bool) → Bool
+abbrev pub ends_by : SessionTurn → (ended : Bool) → Bool
 ends_by turns.Idle ended = ended
 ends_by turns.Closing ended = true
 ends_by other ended = false
 
 -- whether the input is read on, given why no more is taken and whether the mark of unsent bytes is reached
-abbrev pub reads_by : Turn → (ended marked : Bool) → Bool
+abbrev pub reads_by : SessionTurn → (ended marked : Bool) → Bool
 reads_by turns.Idle ended marked = not ended && not marked
 reads_by other ended marked = false
 

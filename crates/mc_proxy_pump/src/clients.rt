@@ -8,7 +8,7 @@ ghost use Rattle.mc_proxy_pump.specs.Clients.{PumpsClient, emitted_at, is_closed
 ghost use Rattle.mc_proxy_pump.specs.Rounds.{HasAnswered, HowMany, Receives, Sends, StopsAt, TakesTurns, ends_by, reads_by};
 
 use crate::tallies::ClientTally;
-use mc_proxy::{Emit, Proxy, ProxyError, Turn, UNSENT_MARK};
+use mc_proxy::{Emit, Proxy, ProxyError, SessionTurn, UNSENT_MARK};
 use mc_stream::{MAX_ROUNDS, Pumped, read_once, write_once};
 use std::io::{Read, Write};
 
@@ -87,10 +87,10 @@ pub fn is_owed(proxy: &Proxy, session: u64) -> bool
 }
 
 /// Counts a request that a turn took, if it did.
-fn count_turn(turn: Turn, tally: &mut ClientTally)
+fn count_turn(turn: SessionTurn, tally: &mut ClientTally)
     ensures { tally.new.missed ≡ tally.old.missed }
 {
-    if turn == Turn::Took {
+    if turn == SessionTurn::Took {
         tally.passed.took();
     }
 }
@@ -131,26 +131,30 @@ fn round<R: Read, W: Write>(
 
 /// Returns whether the session is finished, given why no more is taken: all that was taken of it is answered, all its answers are
 /// sent, and nothing more will arrive.
-fn is_over(proxy: &Proxy, session: u64, turn: Turn, ended: bool) -> bool
+fn is_over(proxy: &Proxy, session: u64, turn: SessionTurn, ended: bool) -> bool
     ensures { result ≡ ((length (output_of (session_at proxy.now session)) == 0) && ((unanswered_of (session_at proxy.now session) == 0) && ends_by turn ended)) }
 {
     let ends = match turn {
-        Turn::Idle => ended,
-        Turn::Closing => true,
-        Turn::Took | Turn::Waiting => false,
+        SessionTurn::Idle => ended,
+        SessionTurn::Closing => true,
+        SessionTurn::Took | SessionTurn::Waiting => false,
     };
     proxy.output(session).is_empty() && proxy.unanswered(session) == 0 && ends
 }
 
 /// Returns whether the input is read on, given why no more is taken and whether the mark of unsent bytes is reached.
-fn is_read(turn: Turn, ended: bool, is_marked: bool) -> bool
+fn is_read(turn: SessionTurn, ended: bool, is_marked: bool) -> bool
     ensures { result ≡ reads_by turn ended is_marked }
 {
-    turn == Turn::Idle && !ended && !is_marked
+    turn == SessionTurn::Idle && !ended && !is_marked
 }
 
 /// Takes requests and emits answers, as far as possible, and returns why no more is taken.
-fn advance(proxy: &mut Proxy, session: u64, tally: &mut ClientTally) -> Result<Turn, ProxyError>
+fn advance(
+    proxy: &mut Proxy,
+    session: u64,
+    tally: &mut ClientTally,
+) -> Result<SessionTurn, ProxyError>
     requires is_open { IsSome (session_at proxy.old session) }
     ensures calls { Stretch session proxy.old proxy.new [] [] tally.old.missed tally.new.missed }
     ensures stop { IfOk result (λ turn. StopsAt turn proxy.new (session_at proxy.new session)) }
@@ -165,17 +169,21 @@ fn advance(proxy: &mut Proxy, session: u64, tally: &mut ClientTally) -> Result<T
 }
 
 /// Takes requests until none waits, or none can be taken, and returns why.
-fn take_turns(proxy: &mut Proxy, session: u64, tally: &mut ClientTally) -> Result<Turn, ProxyError>
+fn take_turns(
+    proxy: &mut Proxy,
+    session: u64,
+    tally: &mut ClientTally,
+) -> Result<SessionTurn, ProxyError>
     requires is_open { IsSome (session_at proxy.old session) }
     ensures turns { TakesTurns session proxy.old proxy.new tally.old.missed tally.new.missed }
     ensures stop { IfOk result (λ turn. StopsAt turn proxy.new (session_at proxy.new session)) }
 {
     loop {
         match proxy.turn(session)? {
-            Turn::Took => tally.passed.took(),
-            Turn::Idle => return Ok(Turn::Idle),
-            Turn::Waiting => return Ok(Turn::Waiting),
-            Turn::Closing => return Ok(Turn::Closing),
+            SessionTurn::Took => tally.passed.took(),
+            SessionTurn::Idle => return Ok(SessionTurn::Idle),
+            SessionTurn::Waiting => return Ok(SessionTurn::Waiting),
+            SessionTurn::Closing => return Ok(SessionTurn::Closing),
         }
     }
 }

@@ -21,8 +21,8 @@ use Rattle.mc_proxy.specs.SessionState.{SessionState, fresh_session, link_at, wi
 use Rattle.mc_proxy.specs.SessionTurns.{IsFed, IsTurn, IsUnchanged}
 use Rattle.mc_proxy.specs.declared.session_turns.Emit.{Emit}
 use Rattle.mc_proxy.specs.declared.session_turns.Emit.TheVariants as emits
-use Rattle.mc_proxy.specs.declared.session_turns.Turn.{Turn}
-use Rattle.mc_proxy.specs.declared.session_turns.Turn.TheVariants as turns
+use Rattle.mc_proxy.specs.declared.session_turns.SessionTurn.{SessionTurn}
+use Rattle.mc_proxy.specs.declared.session_turns.SessionTurn.TheVariants as turns
 use Rattle.mc_proxy.specs.LinkTurns.{Answers}
 use Rattle.mc_proxy.specs.Noting.{noted}
 use Rattle.mc_proxy.specs.ProxyState.{ProxyState, Sessions, output_of, sent_by, session_at, session_in, updated, with_fresh}
@@ -110,7 +110,8 @@ rings_noted ring tag outcome (e ∷ es) h =
     (rings_noted ring tag outcome es (All-tail (λ (x : Entry). x.ring ≡ ring) e es h))
 
 -- `turn`
-unchanged : (number : ℕ) (turn : Turn) (ring : RingState) (losses : Losses) (links now : List LinkState) (before after : SessionState) → turn ≢ turns.Took
+unchanged : (number : ℕ) (turn : SessionTurn) (ring : RingState) (losses : Losses) (links now : List LinkState) (before after : SessionState)
+    → turn ≢ turns.Took
     → IsTurn number turn ring losses links now before after → IsUnchanged links now before after
 unchanged number turns.Took ring losses links now before after differ step = absurd (differ refl)
 unchanged number turns.Idle ring losses links now before after differ step = step.1
@@ -136,7 +137,7 @@ talks_took ring clients texts outs went came number old new h steps = record {
   came_is = h.came_is;
 }
 
-talks_idled : (ring : RingState) (clients : ℕ) (texts outs went came : ℕ → List ℕ) (number : ℕ) (turn : Turn) (old new : ProxyState) → turn ≢ turns.Took
+talks_idled : (ring : RingState) (clients : ℕ) (texts outs went came : ℕ → List ℕ) (number : ℕ) (turn : SessionTurn) (old new : ProxyState) → turn ≢ turns.Took
     → Talks ring clients texts outs went came old → Steps number old new (IsTurn number turn old.ring old.losses) → Talks ring clients texts outs went came new
 talks_idled ring clients texts outs went came number turn old new differ h steps =
     let same = unchanged number turn old.ring old.losses old.links new.links steps.before steps.after differ steps.step in
@@ -157,7 +158,7 @@ talks_idled ring clients texts outs went came number turn old new differ h steps
       came_is = h.came_is;
     }
 
-pub talks_turned : (ring : RingState) (clients : ℕ) (texts outs went came : ℕ → List ℕ) (number : ℕ) (turn : Turn) (old new : ProxyState) → Talks ring clients texts outs went came old
+pub talks_turned : (ring : RingState) (clients : ℕ) (texts outs went came : ℕ → List ℕ) (number : ℕ) (turn : SessionTurn) (old new : ProxyState) → Talks ring clients texts outs went came old
     → Steps number old new (IsTurn number turn old.ring old.losses) → Talks ring clients texts outs went came new
 talks_turned ring clients texts outs went came number turns.Took old new h steps = talks_took ring clients texts outs went came number old new h steps
 talks_turned ring clients texts outs went came number turns.Idle old new h steps = talks_idled ring clients texts outs went came number turns.Idle old new (λ is. absurd cc) h steps

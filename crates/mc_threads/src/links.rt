@@ -5,7 +5,7 @@ ghost use Rattle.mc_threads.specs.Links.{Carries, IsMoved, SameEnds};
 ghost use Rattle.mc_threads.specs.Talks.{HasReplied, StillTalks};
 
 use crate::errors::Ended;
-use mc_proxy::{Emit, LinkStep, Proxy, Turn};
+use mc_proxy::{Emit, LinkStep, Proxy, SessionTurn};
 use rtrb::{Consumer, Producer};
 
 /// The most requests of a client, answers to it, or replies of a server that are taken in one round.
@@ -66,7 +66,7 @@ pub fn ask_some(proxy: &mut Proxy, client: u64) -> Result<(), Ended>
 {
     for _ in 0..AT_ONCE {
         let turn = proxy.turn(client)?;
-        if turn != Turn::Took {
+        if turn != SessionTurn::Took {
             return Ok(());
         }
     }

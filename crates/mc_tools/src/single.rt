@@ -5,7 +5,7 @@ use crate::thread_loads::{BUDGET, CLIENTS, ITEMS, MOMENT, ring_of};
 use anyhow::bail;
 use mc_cache::Cache;
 use mc_item::CasCounter;
-use mc_proxy::{Emit, LinkStep, Proxy, ProxyError, Turn as ClientTurn};
+use mc_proxy::{Emit, LinkStep, Proxy, ProxyError, SessionTurn};
 use mc_server::{Server, ServerError, Turn};
 use mc_store::{FixedHasher, LruStore};
 use std::alloc::{AllocError, Global};
@@ -99,7 +99,7 @@ fn round(
 /// Takes the requests of a client that need not wait.
 fn ask(proxy: &mut Proxy, client: u64) -> Result<(), ProxyError> {
     for _ in 0..AT_ONCE {
-        if proxy.turn(client)? != ClientTurn::Took {
+        if proxy.turn(client)? != SessionTurn::Took {
             break;
         }
     }

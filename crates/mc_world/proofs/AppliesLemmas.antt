@@ -19,8 +19,8 @@ use Rattle.mc_proxy.specs.Looks.{IsReady}
 use Rattle.mc_proxy.specs.Sending.{is_marked}
 use Rattle.mc_proxy.specs.SessionState.{SessionState, link_at, with_link}
 use Rattle.mc_proxy.specs.SessionTurns.{IsTurn}
-use Rattle.mc_proxy.specs.declared.session_turns.Turn.{Turn}
-use Rattle.mc_proxy.specs.declared.session_turns.Turn.TheVariants as turns
+use Rattle.mc_proxy.specs.declared.session_turns.SessionTurn.{SessionTurn}
+use Rattle.mc_proxy.specs.declared.session_turns.SessionTurn.TheVariants as turns
 use Rattle.mc_proxy.specs.LinkTurns.{IsLinkTurn}
 use Rattle.mc_proxy.specs.ProxyState.{ProxyState, session_at}
 use Rattle.mc_proxy.specs.Turns.{Steps}
@@ -74,7 +74,7 @@ lives_nowhere place generation pool none = (λ never. absurd cc, λ h. absurd (n
 nothing_closed : (s : ReaderState) → s.closed ≡ true → rest_of s [] ≡ []
 nothing_closed s closed = ap (λ (v : Bool). rest_from v s.dropping (s.unread ++ [])) closed
 
-pub not_ready : (number : ℕ) (turn : Turn) (old new : ProxyState) → turn ≢ turns.Took → Steps number old new (IsTurn number turn old.ring old.losses)
+pub not_ready : (number : ℕ) (turn : SessionTurn) (old new : ProxyState) → turn ≢ turns.Took → Steps number old new (IsTurn number turn old.ring old.losses)
     → (session : SessionState) → session_at old number ≡ Some session → IsReady old.ring old.links session → ⊥
 not_ready number turns.Took old new differ h session at ready = differ refl
 not_ready number turns.Idle old new differ h session at ready =

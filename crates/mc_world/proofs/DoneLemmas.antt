@@ -15,7 +15,7 @@ use Rattle.mc_proxy.specs.Emits.{IsEmit}
 use Rattle.mc_proxy.specs.SessionState.{SessionState, link_at}
 use Rattle.mc_proxy.specs.SessionTurns.{IsFed, IsTurn}
 use Rattle.mc_proxy.specs.declared.session_turns.Emit.TheVariants as emits
-use Rattle.mc_proxy.specs.declared.session_turns.Turn.TheVariants as turns
+use Rattle.mc_proxy.specs.declared.session_turns.SessionTurn.TheVariants as turns
 use Rattle.mc_proxy.specs.ProxyState.{ProxyState, Sessions, output_of, sent_by, session_at}
 use Rattle.mc_proxy.specs.Turns.{Alone}
 use Rattle.mc_account.specs.Lanes.{Lane, fresh_lane}

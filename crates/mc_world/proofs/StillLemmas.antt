@@ -6,8 +6,8 @@ use Rattle.mc_proxy.specs.SessionState.{SessionState}
 use Rattle.mc_proxy.specs.SessionTurns.{IsTurn}
 use Rattle.mc_proxy.specs.declared.session_turns.Emit.{Emit}
 use Rattle.mc_proxy.specs.declared.session_turns.Emit.TheVariants as emits
-use Rattle.mc_proxy.specs.declared.session_turns.Turn.{Turn}
-use Rattle.mc_proxy.specs.declared.session_turns.Turn.TheVariants as turns
+use Rattle.mc_proxy.specs.declared.session_turns.SessionTurn.{SessionTurn}
+use Rattle.mc_proxy.specs.declared.session_turns.SessionTurn.TheVariants as turns
 use Rattle.mc_proxy.specs.ProxyState.{ProxyState, Sessions, session_in, updated}
 use Rattle.mc_proxy.specs.Turns.{Alone, Steps}
 use Rattle.mc_proxy.proofs.NotingLemmas.{same_proxy}
@@ -32,7 +32,7 @@ steps_still number old new Step h same links =
     (h.is ∙ ap (λ (s : SessionState). updated number s old.sessions) same ∙ updated-same number h.before old.sessions h.was)
     h.admitted links
 
-pub turn_still : (number : ℕ) (turn : Turn) (old new : ProxyState) → turn ≢ turns.Took → Steps number old new (IsTurn number turn old.ring old.losses) → new ≡ old
+pub turn_still : (number : ℕ) (turn : SessionTurn) (old new : ProxyState) → turn ≢ turns.Took → Steps number old new (IsTurn number turn old.ring old.losses) → new ≡ old
 turn_still number turns.Took old new differ h = absurd (differ refl)
 turn_still number turns.Idle old new differ h = steps_still number old new (IsTurn number turns.Idle old.ring old.losses) h h.step.1.1 h.step.1.0
 turn_still number turns.Waiting old new differ h = steps_still number old new (IsTurn number turns.Waiting old.ring old.losses) h h.step.1.1 h.step.1.0

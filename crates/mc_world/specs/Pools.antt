@@ -10,7 +10,7 @@ use Rattle.mc_proxy.specs.Sending.{at_once}
 use Rattle.mc_proxy.specs.SessionState.{link_at, with_link}
 use Rattle.mc_proxy.specs.SessionTurns.{IsFed, IsTurn}
 use Rattle.mc_proxy.specs.declared.session_turns.Emit.TheVariants as emits
-use Rattle.mc_proxy.specs.declared.session_turns.Turn.TheVariants as turns
+use Rattle.mc_proxy.specs.declared.session_turns.SessionTurn.TheVariants as turns
 use Rattle.mc_proxy.specs.LinkTurns.{Answers, lost_at}
 use Rattle.mc_proxy.specs.ProxyState.{sent_by, session_at, without}
 use Rattle.mc_proxy.specs.Turns.{Alone, Steps}

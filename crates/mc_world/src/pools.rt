@@ -4,7 +4,7 @@ ghost use Rattle.std.specs.Prelude.{◌≡◌, ◌↔◌, IfOk, OnErr};
 use crate::errors::{Step, WorldError};
 use crate::sites::Site;
 use mc_history::Entry;
-use mc_proxy::{Emit, Proxy, ProxyError, Turn};
+use mc_proxy::{Emit, Proxy, ProxyError, SessionTurn};
 use mc_store::Store;
 use std::alloc::Global;
 use std::marker::Model;
@@ -96,7 +96,7 @@ impl<S: Store + Drop> Pool<S> {
             Err(ProxyError::NoSession) => return Ok(Step::Nothing),
             Err(_) => return Err(WorldError::Memory),
         };
-        let Turn::Took = turn else {
+        let SessionTurn::Took = turn else {
             return Ok(Step::Nothing);
         };
         Ok(Step::Done)

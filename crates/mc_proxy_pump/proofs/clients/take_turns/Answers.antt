@@ -1,6 +1,6 @@
 use Rattle.std.proofs.Common.{arith, []}
 use Rattle.mc_proxy.specs.SessionTurns.{IsTurn}
-use Rattle.mc_proxy.specs.declared.session_turns.Turn.TheVariants.{Took, Idle, Waiting, Closing}
+use Rattle.mc_proxy.specs.declared.session_turns.SessionTurn.TheVariants.{Took, Idle, Waiting, Closing}
 use Rattle.mc_proxy.specs.Turns.{Steps}
 use Rattle.mc_proxy_pump.proofs.RoundLemmas.{closing_stops, idle_stops, stretch_turned, took_one, waiting_stops}
 use Rattle.mc_proxy_pump.proofs.StretchLemmas.{stretch_then}

@@ -1,7 +1,7 @@
 use Rattle.std.proofs.Common.{subst}
 use Rattle.mc_proxy.specs.SessionTurns.{IsTurn}
-use Rattle.mc_proxy.specs.declared.session_turns.Turn.{Turn}
-use Rattle.mc_proxy.specs.declared.session_turns.Turn.TheVariants as turns
+use Rattle.mc_proxy.specs.declared.session_turns.SessionTurn.{SessionTurn}
+use Rattle.mc_proxy.specs.declared.session_turns.SessionTurn.TheVariants as turns
 use Rattle.mc_proxy.specs.Turns.{Steps}
 use Rattle.mc_world.proofs.AppliesLemmas.{it_applies, it_does_not, not_ready, was_ready}
 use Rattle.mc_world.proofs.StillLemmas.{same_pool, turn_still}
@@ -19,5 +19,5 @@ returns-in_default g c =
 pub returns-clause-applies : goal.returns-clause-applies
 returns-clause-applies g c =
     let steps : Steps c.args.client c.self.inside.proxy c.turn.new.self (IsTurn c.args.client turns.Took c.self.inside.proxy.ring c.self.inside.proxy.losses) =
-    subst (λ (t : Turn). Steps c.args.client c.self.inside.proxy c.turn.new.self (IsTurn c.args.client t c.self.inside.proxy.ring c.self.inside.proxy.losses)) c.in-Took.is c.in-Ok.ensures.turn in
+    subst (λ (t : SessionTurn). Steps c.args.client c.self.inside.proxy c.turn.new.self (IsTurn c.args.client t c.self.inside.proxy.ring c.self.inside.proxy.losses)) c.in-Took.is c.in-Ok.ensures.turn in
     rw (← c.self.view_is) (it_applies (was_ready c.args.client c.self.inside.proxy c.turn.new.self c.self.inside.sites.items steps))
