@@ -10,7 +10,7 @@ use crate::inputs::Edge;
 use crate::limits::KEPT_ROOM;
 use crate::openings::{Opening, Stranger};
 use crate::reports::Report;
-use crate::steps::Step;
+use crate::steps::AfterPump;
 use crate::strangers::{Refusal, opening};
 use mc_program::{EprintSeldom, Pace, Said, Seldom, earlier};
 use mc_stream::Tally;
@@ -318,15 +318,15 @@ impl<K: Default + Drop> Clients<K> {
         let step = handler.serve(&mut seat.client, moment);
         seat.pass(before, handler.tally());
         match step {
-            Step::GoOn => {
+            AfterPump::GoOn => {
                 let was_queued = mem::replace(&mut seat.queued, true);
                 if !was_queued && self.queue.push(key).is_err() {
                     handler.note_refused();
                     self.close(handler, key);
                 }
             }
-            Step::Wait => handler.give_back(seat.client.number, KEPT_ROOM),
-            Step::Close => match seat.client.first.opening() {
+            AfterPump::Wait => handler.give_back(seat.client.number, KEPT_ROOM),
+            AfterPump::Close => match seat.client.first.opening() {
                 Opening::Strange(stranger) => self.turn_away(handler, key, stranger),
                 _ => self.close(handler, key),
             },

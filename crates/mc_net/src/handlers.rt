@@ -3,7 +3,7 @@ ghost use Rattle.std.specs.Prelude.{◌≡◌, ◌<◌, ◌^◌};
 
 use crate::first_lines::FirstLine;
 use crate::inputs::Edge;
-use crate::steps::Step;
+use crate::steps::AfterPump;
 use mc_stream::Tally;
 use mio::net::TcpStream;
 
@@ -36,7 +36,7 @@ pub trait Handler<K> {
     fn end(&mut self, number: u64);
 
     /// Carries a client's bytes at a moment, in seconds, as far as possible, and returns what is done with it next.
-    fn serve(&mut self, client: &mut Client<K>, moment: u64) -> Step
+    fn serve(&mut self, client: &mut Client<K>, moment: u64) -> AfterPump
         requires { moment < 2 ^ 63 }
         ensures { client.new.number ≡ client.old.number };
 

@@ -116,7 +116,7 @@ pub use resets::reset;
 pub use rooms::Room;
 pub use rounds::{Rounds, patience, serve_rounds};
 pub use seats::{LINGER, PATIENCE, QUIET};
-pub use steps::{Step, step_after};
+pub use steps::{AfterPump, step_after};
 pub use stopwatches::Stopwatch;
 pub use stranger_laws::{
     commands_are_text, first_lines_of_strangers, first_lines_of_text, first_lines_stay,

@@ -6,7 +6,7 @@ use crate::acceptors::{Acceptor, Backlog};
 use crate::binding::bind;
 use crate::budgets::Budget;
 use crate::seats::{QUIET, Seat};
-use crate::steps::Step;
+use crate::steps::AfterPump;
 use mc_admin::{REQUEST_LIMIT, Sheet, host_of};
 use mc_program::{AdminTerms, ServeError, earlier};
 use mio::event::Event;
@@ -297,9 +297,9 @@ impl Operators {
             self.second,
         );
         match step {
-            Step::GoOn => self.stirred = true,
-            Step::Wait => seat.stirred = false,
-            Step::Close => {
+            AfterPump::GoOn => self.stirred = true,
+            AfterPump::Wait => seat.stirred = false,
+            AfterPump::Close => {
                 let _ = self.seats.try_remove(key);
             }
         }

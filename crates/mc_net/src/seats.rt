@@ -4,7 +4,7 @@ ghost use Rattle.mc_net.specs.Listings.{listing_of};
 
 use crate::budgets::Budget;
 use crate::inputs::{Edge, Input};
-use crate::steps::Step;
+use crate::steps::AfterPump;
 use mc_admin::{AdminError, Asked, Hosts, REQUEST_LIMIT, Sheet, Talk};
 use mc_stream::{Pumped, read_once, write_once};
 use mio::event::Event;
@@ -108,14 +108,14 @@ impl Seat {
         piece: &mut [u8],
         budget: &mut Budget,
         second: u64,
-    ) -> Step
+    ) -> AfterPump
         requires { 0 < length piece.old }
     {
         let mut sheet = *sheet;
         for _ in 0..MAX_TURNS {
             let is_listed = self.listing().is_some();
             if (is_listed && sheet.part.is_none()) || !budget.take(second) {
-                return Step::GoOn;
+                return AfterPump::GoOn;
             }
             let step = if self.over {
                 self.read(piece, second)
@@ -130,19 +130,19 @@ impl Seat {
                 return step;
             }
         }
-        Step::GoOn
+        AfterPump::GoOn
     }
 
     /// Sends as much of its answer as the socket takes; returns none if it goes on.
-    fn send(&mut self, second: u64) -> Option<Step> {
+    fn send(&mut self, second: u64) -> Option<AfterPump> {
         let mut output = &self.stream;
         let sent = match write_once(&mut output, self.talk.output()) {
             Ok(sent) => sent,
-            Err(Pumped::Again) => return Some(Step::GoOn),
-            Err(_) => return Some(Step::Close),
+            Err(Pumped::Again) => return Some(AfterPump::GoOn),
+            Err(_) => return Some(AfterPump::Close),
         };
         if sent == 0 {
-            return Some(Step::Wait);
+            return Some(AfterPump::Wait);
         }
         self.talk.note_sent(sent);
         self.used = second;
@@ -156,7 +156,7 @@ impl Seat {
     }
 
     /// Reads the bytes that have arrived; those of one that is over are dropped. It returns none if the connection goes on.
-    fn read(&mut self, piece: &mut [u8], second: u64) -> Option<Step>
+    fn read(&mut self, piece: &mut [u8], second: u64) -> Option<AfterPump>
         requires { 0 < length piece.old }
     {
         let mut ended = false;
@@ -167,19 +167,19 @@ impl Seat {
         let read = read_once(&mut input, piece, &mut ended);
         self.edge = input.edge;
         match read {
-            Ok(0) if ended => Some(Step::Close),
-            Ok(0) => Some(Step::Wait),
+            Ok(0) if ended => Some(AfterPump::Close),
+            Ok(0) => Some(AfterPump::Wait),
             Ok(count) => {
                 let (came, _) = piece.split_at(count);
                 self.take(came, second)
             }
-            Err(Pumped::Again) => Some(Step::GoOn),
-            Err(_) => Some(Step::Close),
+            Err(Pumped::Again) => Some(AfterPump::GoOn),
+            Err(_) => Some(AfterPump::Close),
         }
     }
 
     /// Takes the bytes that were read; those of one that is over are dropped.
-    fn take(&mut self, came: &[u8], second: u64) -> Option<Step> {
+    fn take(&mut self, came: &[u8], second: u64) -> Option<AfterPump> {
         if self.over {
             return None;
         }
@@ -188,11 +188,11 @@ impl Seat {
         if self.talk.is_read() && self.talk.feed(came).is_ok() {
             return None;
         }
-        Some(Step::Close)
+        Some(AfterPump::Close)
     }
 
     /// Goes on with what was read. It returns none if the connection goes on.
-    fn answer(&mut self, listen: &[u8], name: &[u8], sheet: &mut Sheet<'_>) -> Option<Step> {
+    fn answer(&mut self, listen: &[u8], name: &[u8], sheet: &mut Sheet<'_>) -> Option<AfterPump> {
         if !self.talk.output().is_empty() {
             return None;
         }
@@ -202,7 +202,7 @@ impl Seat {
             own: self.own.as_bytes(),
         };
         let Ok(asked) = self.talk.turn(&hosts, sheet) else {
-            return Some(Step::Close);
+            return Some(AfterPump::Close);
         };
         if asked == Some(Asked::Conns) {
             self.listing = match sheet.part.take() {
@@ -211,7 +211,7 @@ impl Seat {
             };
         }
         let is_silent = self.talk.output().is_empty();
-        (is_silent && self.talk.is_closing()).then_some(Step::Close)
+        (is_silent && self.talk.is_closing()).then_some(AfterPump::Close)
     }
 }
 

@@ -6,7 +6,7 @@ use mc_stream::Pumped;
 
 /// What is done with a client after its pump.
 #[derive(Clone, Copy, Debug, PartialEq, Eq)]
-pub enum Step {
+pub enum AfterPump {
     /// It is served again in the next round, even without an event.
     GoOn,
     /// It waits until it has an event.
@@ -16,12 +16,12 @@ pub enum Step {
 }
 
 /// Returns what is done with a client whose pump ended so. It is closed if it is over or has failed, and only then.
-pub fn step_after(pump: Pumped) -> Step
+pub fn step_after(pump: Pumped) -> AfterPump
     ensures { result ≡ step_after pump }
 {
     match pump {
-        Pumped::Again => Step::GoOn,
-        Pumped::Blocked => Step::Wait,
-        Pumped::Done | Pumped::Failed => Step::Close,
+        Pumped::Again => AfterPump::GoOn,
+        Pumped::Blocked => AfterPump::Wait,
+        Pumped::Done | Pumped::Failed => AfterPump::Close,
     }
 }

@@ -2,7 +2,7 @@
 ghost use Rattle.std.specs.Prelude.{◌≡◌, ◌<◌, vec_len};
 
 use crate::limits::CLIENT_ROOM;
-use mc_net::{Client, Guard, Handler, Input, PIECE_LEN, Step, step_after};
+use mc_net::{AfterPump, Client, Guard, Handler, Input, PIECE_LEN, step_after};
 use mc_program::ServeError;
 use mc_proxy::{Losses, MAX_SESSIONS, Proxy};
 use mc_proxy_pump::{ClientTally, Pumped, is_owed, pump_answers, pump_client};
@@ -58,7 +58,7 @@ impl ProxyHandler {
     }
 
     /// Sends a client its answers, and returns what is done with it next. Once it has no pending answer, it is served again.
-    fn drain(&mut self, client: &mut Client<Held>) -> Step
+    fn drain(&mut self, client: &mut Client<Held>) -> AfterPump
         ensures { client.new.number ≡ client.old.number }
     {
         let mut output = &client.stream;
@@ -70,9 +70,9 @@ impl ProxyHandler {
                     client.kept = 0;
                 }
                 if moved || !owed {
-                    Step::GoOn
+                    AfterPump::GoOn
                 } else {
-                    Step::Wait
+                    AfterPump::Wait
                 }
             }
         }
@@ -121,7 +121,7 @@ impl Handler<Held> for ProxyHandler {
     }
 
     /// Serves a client. If too many bytes are buffered for it, the proxy only sends its answers.
-    fn serve(&mut self, client: &mut Client<Held>, _moment: u64) -> Step {
+    fn serve(&mut self, client: &mut Client<Held>, _moment: u64) -> AfterPump {
         if client.kept > self.most {
             return self.drain(client);
         }

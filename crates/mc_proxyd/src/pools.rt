@@ -8,7 +8,7 @@ use crate::settings::ProxySettings;
 use crate::upstreams::Upstream;
 use crate::woken::Woken;
 use mc_admin::LinkFigures;
-use mc_net::{KEPT_ROOM, Step, step_after};
+use mc_net::{AfterPump, KEPT_ROOM, step_after};
 use mc_program::earlier;
 use mc_proxy::{LINK_MARK, MAX_SESSIONS, Proxy, ProxyError};
 use mc_ring::{Address, Ring};
@@ -191,8 +191,8 @@ impl Pool {
                 upstream.note_waiting(proxy, place, now);
             }
             match step_after(pumped) {
-                Step::GoOn | Step::Wait => {}
-                Step::Close => {
+                AfterPump::GoOn | AfterPump::Wait => {}
+                AfterPump::Close => {
                     upstream.lose(proxy, place);
                     others = true;
                 }

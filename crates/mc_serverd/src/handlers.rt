@@ -6,7 +6,7 @@ ghost use Rattle.mc_pump.specs.Pumps.{Pumps};
 use crate::counts::Counts;
 use crate::options::PROGRAM;
 use crate::sides::{Received, Sent};
-use mc_net::{Client, Guard, Handler, Input, PIECE_LEN, Step, step_after};
+use mc_net::{AfterPump, Client, Guard, Handler, Input, PIECE_LEN, step_after};
 use mc_program::{EprintSeldom, Said, Seldom};
 use mc_pump::{Pumped, Watch, pump_gathering};
 use mc_server::{AnswerLimit, Server, ServerError};
@@ -111,7 +111,7 @@ impl<S: Store + Drop> Handler<()> for ServerHandler<S> {
         let _ = self.server.close(number);
     }
 
-    fn serve(&mut self, client: &mut Client<()>, moment: u64) -> Step {
+    fn serve(&mut self, client: &mut Client<()>, moment: u64) -> AfterPump {
         let (pumped, failed) = pump_client(
             &mut self.server,
             client,
