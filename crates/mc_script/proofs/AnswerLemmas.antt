@@ -15,8 +15,8 @@ use Rattle.mc_server.specs.Served.{Entry, IsLegalAt, answer_after, cache_after}
 use Rattle.mc_server.specs.Histories.{IsLegalHistory, answers_to, replayed, taken_of, turns_of}
 use Rattle.mc_server.proofs.HistoryLemmas.{own_number, other_number, legal-push, taken-push}
 use Rattle.mc_server.proofs.RefusalLemmas.{granted_is_legal, refusal_is_told}
-use Rattle.mc_script.specs.declared.events.Event.{Event}
-use Rattle.mc_script.specs.declared.events.Event.TheVariants.{Bytes, Turn}
+use Rattle.mc_script.specs.declared.events.ServerEvent.{ServerEvent}
+use Rattle.mc_script.specs.declared.events.ServerEvent.TheVariants.{Bytes, Turn}
 use Rattle.mc_script.specs.Answers.{bytes_fed, text_fed, turns_by, finds_one, served_with, turns_served, cache_of, Answers, refusals_of, AnswersUnrefused, HasPart, TellNoRefusal}
 use Rattle.mc_script.specs.Events.{IsEventOf}
 use Rattle.mc_script.specs.Scripts.{ScriptSeen}
@@ -73,7 +73,7 @@ one_answer script a b x y same =
     x.answered ∙ ap (λ (es : List Entry). map (λ number. answers_to number (cache_of script) es) (range_with_len 0 script.connections)) entries ∙ sym y.answered
 
 -- a history that the first events allow, in which memory was refused to no store
-record Grants (opening : CacheState) (events : List Event) (history : List Entry) : Type 0 where
+record Grants (opening : CacheState) (events : List ServerEvent) (history : List Entry) : Type 0 where
   legal : IsLegalHistory opening history
   taken : (number : ℕ) → taken_of number history ≡ take (length (taken_of number history)) (requests_of (text_fed number events))
   granted : All (λ refused. refused ≡ false) (refusals_of history)
@@ -95,7 +95,7 @@ grants_none : (opening : CacheState) → Grants opening [] []
 grants_none opening = record { legal = tt; taken = λ number. refl; granted = λ k d inside. absurd (omega arith) }
 
 -- bytes arrive
-grants_bytes : (opening : CacheState) (events : List Event) (history : List Entry) (connection : ℕ) (bytes : List ℕ) → Grants opening events history → Grants opening (events ++ Bytes connection bytes ∷ []) history
+grants_bytes : (opening : CacheState) (events : List ServerEvent) (history : List Entry) (connection : ℕ) (bytes : List ℕ) → Grants opening events history → Grants opening (events ++ Bytes connection bytes ∷ []) history
 grants_bytes opening events history connection bytes h = record {
   legal = h.legal;
   taken = λ number.
@@ -106,7 +106,7 @@ grants_bytes opening events history connection bytes h = record {
 }
 
 -- a turn finds none
-grants_idle : (opening : CacheState) (events : List Event) (history : List Entry) (connection moment : ℕ) → Grants opening events history → Grants opening (events ++ Turn connection moment ∷ []) history
+grants_idle : (opening : CacheState) (events : List ServerEvent) (history : List Entry) (connection moment : ℕ) → Grants opening events history → Grants opening (events ++ Turn connection moment ∷ []) history
 grants_idle opening events history connection moment h = record {
   legal = h.legal;
   taken = λ number. h.taken number ∙ ap (λ (text : List ℕ). take (length (taken_of number history)) (requests_of text)) (sym (text_turn number connection moment events));
@@ -114,7 +114,7 @@ grants_idle opening events history connection moment h = record {
 }
 
 -- a turn takes the next request
-grants_turn : (opening : CacheState) (events : List Event) (history : List Entry) (connection moment : ℕ) (what : Taken) → Grants opening events history
+grants_turn : (opening : CacheState) (events : List ServerEvent) (history : List Entry) (connection moment : ℕ) (what : Taken) → Grants opening events history
     → take (length (taken_of connection history) + 1) (requests_of (text_fed connection events)) ≡ take (length (taken_of connection history)) (requests_of (text_fed connection events)) ++ what ∷ []
     → Grants opening (events ++ Turn connection moment ∷ []) (history ++ (record { connection = connection; what = what; moment = moment; refused = false }) ∷ [])
 grants_turn opening events history connection moment what h next =
@@ -140,12 +140,12 @@ grants_turn opening events history connection moment what h next =
     }
 
 -- a history grows by an event
-record GoesOn (opening : CacheState) (events : List Event) (event : Event) (history : List Entry) : Type 0 where
+record GoesOn (opening : CacheState) (events : List ServerEvent) (event : ServerEvent) (history : List Entry) : Type 0 where
   longer : List Entry
   grants : Grants opening (events ++ event ∷ []) longer
   turns : turns_of longer ≡ served_with events (turns_of history) event
 
-turn_goes_on : (opening : CacheState) (events : List Event) (history : List Entry) (connection moment : ℕ) (finds : Bool) → finds_one connection events (turns_of history) ≡ finds → Grants opening events history
+turn_goes_on : (opening : CacheState) (events : List ServerEvent) (history : List Entry) (connection moment : ℕ) (finds : Bool) → finds_one connection events (turns_of history) ≡ finds → Grants opening events history
     → GoesOn opening events (Turn connection moment) history
 turn_goes_on opening events history connection moment false is h = record {
   longer = history;
@@ -163,20 +163,21 @@ turn_goes_on opening events history connection moment true is h =
           (sym (served_one events (turns_of history) connection moment is));
     }
 
-event_goes_on : (opening : CacheState) (events : List Event) (event : Event) (history : List Entry) → Grants opening events history → GoesOn opening events event history
+event_goes_on : (opening : CacheState) (events : List ServerEvent) (event : ServerEvent) (history : List Entry) → Grants opening events history → GoesOn opening events event history
 event_goes_on opening events (Bytes connection bytes) history h = record { longer = history; grants = grants_bytes opening events history connection bytes h; turns = refl }
 event_goes_on opening events (Turn connection moment) history h = turn_goes_on opening events history connection moment (finds_one connection events (turns_of history)) refl h
 
 -- a history grows by all events that are left
-record Ends (opening : CacheState) (before events : List Event) (history : List Entry) : Type 0 where
+record Ends (opening : CacheState) (before events : List ServerEvent) (history : List Entry) : Type 0 where
   longer : List Entry
   grants : Grants opening (before ++ events) longer
   turns : turns_of longer ≡ turns_served before (turns_of history) events
 
-all_go_on : (opening : CacheState) (before events : List Event) (history : List Entry) → Grants opening before history → Ends opening before events history
+all_go_on : (opening : CacheState) (before events : List ServerEvent) (history : List Entry) → Grants opening before history
+    → Ends opening before events history
 all_go_on opening before [] history h = record {
   longer = history;
-  grants = subst (λ (es : List Event). Grants opening es history) (sym (append-nil before)) h;
+  grants = subst (λ (es : List ServerEvent). Grants opening es history) (sym (append-nil before)) h;
   turns = refl;
 }
 all_go_on opening before (event ∷ events) history h =
@@ -184,7 +185,7 @@ all_go_on opening before (event ∷ events) history h =
     let rest = all_go_on opening (before ++ event ∷ []) events first.longer first.grants in
     record {
       longer = rest.longer;
-      grants = subst (λ (es : List Event). Grants opening es rest.longer) (append_assoc before (event ∷ []) events) rest.grants;
+      grants = subst (λ (es : List ServerEvent). Grants opening es rest.longer) (append_assoc before (event ∷ []) events) rest.grants;
       turns = rest.turns ∙ ap (λ (turns : List (ℕ × ℕ)). turns_served (before ++ event ∷ []) turns events) first.turns;
     }
 
@@ -204,7 +205,7 @@ some_answer script =
 Below : ℕ → List (ℕ × ℕ) → Type 0
 Below connections turns = All (λ turn. turn.0 < connections) turns
 
-turns_below : (connections : ℕ) (before : List Event) (served : List (ℕ × ℕ)) (events : List Event) → Below connections served → All (IsEventOf connections) events → Below connections (turns_served before served events)
+turns_below : (connections : ℕ) (before : List ServerEvent) (served : List (ℕ × ℕ)) (events : List ServerEvent) → Below connections served → All (IsEventOf connections) events → Below connections (turns_served before served events)
 unfolding Below
 turns_below connections before served [] below all = below
 turns_below connections before served (Bytes connection bytes ∷ events) below all =

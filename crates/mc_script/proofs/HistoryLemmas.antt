@@ -17,20 +17,20 @@ use Rattle.mc_server.specs.Holds.{Holds, ServerHoldsAt, ServerHolds, grown}
 use Rattle.mc_server.specs.declared.turns.Turn.{Turn as Turned}
 use Rattle.mc_server.specs.declared.turns.Turn.TheVariants.{Took, Idle, Closing}
 use Rattle.mc_server.proofs.HoldsLemmas.{at_each, stood, entry_taken, taken_is_first, ServerHolds-same, ServerHolds-new, ServerHolds-admitted, ServerHolds-fed, ServerHolds-took, ServerHolds-idle, ServerHolds-closing}
-use Rattle.mc_script.specs.declared.events.Event.{Event}
-use Rattle.mc_script.specs.declared.events.Event.TheVariants.{Bytes, Turn}
+use Rattle.mc_script.specs.declared.events.ServerEvent.{ServerEvent}
+use Rattle.mc_script.specs.declared.events.ServerEvent.TheVariants.{Bytes, Turn}
 use Rattle.mc_script.specs.Answers.{bytes_fed, text_fed, turns_by, finds_one, served_with, turns_served, cache_of, Answers}
 use Rattle.mc_script.specs.Plays.{Plays, opened, outputs_of}
 use Rattle.mc_script.specs.Scripts.{ScriptSeen}
 use Rattle.mc_script.proofs.OutputLemmas.{opened_more}
 
 -- the texts of all connections
-abbrev texts_fed : List Event → ℕ → List ℕ
+abbrev texts_fed : List ServerEvent → ℕ → List ℕ
 texts_fed events number = text_fed number events
 
 -- The state in which the first events leave a server: its connections are open, its state is that of a history, and
 -- the remaining turns continue the turns of that history.
-pub record Played (opening : CacheState) (connections : ℕ) (events : List Event) (i : ℕ) (server : ServerState) : Type 0 where
+pub record Played (opening : CacheState) (connections : ℕ) (events : List ServerEvent) (i : ℕ) (server : ServerState) : Type 0 where
   pub history : List Entry
   pub are_open : (number : ℕ) → number < connections → IsSome (connection_at server number)
   pub holds : ServerHolds opening (texts_fed (take i events)) (λ _. []) history server
@@ -51,7 +51,7 @@ opened_holds opening (suc count) =
     subst (λ (s : ServerState). ServerHolds opening (λ _. []) (λ _. []) [] s) (opened_more opening count ∙ ap (λ (n : ℕ). opened opening n) (add-one count))
     (ServerHolds-admitted opening (λ _. []) (λ _. []) [] (opened opening count) (opened_holds opening count))
 
-pub played_none : (opening : CacheState) (connections : ℕ) (events : List Event) → Played opening connections events 0 (opened opening connections)
+pub played_none : (opening : CacheState) (connections : ℕ) (events : List ServerEvent) → Played opening connections events 0 (opened opening connections)
 played_none opening connections events = record {
   history = [];
   are_open = λ number inside. fresh_open 0 connections number (omega arith) (omega arith);
@@ -60,18 +60,18 @@ played_none opening connections events = record {
 }
 
 -- the events so far with one more, and those that are left
-events_more : (events : List Event) (i : ℕ) (e : Event) → i < length events → get_or events i e ≡ e → take (i + 1) events ≡ take i events ++ e ∷ []
-events_more events i e h is = take_more events i e h ∙ ap (λ (x : Event). take i events ++ x ∷ []) is
+events_more : (events : List ServerEvent) (i : ℕ) (e : ServerEvent) → i < length events → get_or events i e ≡ e → take (i + 1) events ≡ take i events ++ e ∷ []
+events_more events i e h is = take_more events i e h ∙ ap (λ (x : ServerEvent). take i events ++ x ∷ []) is
 
-events_left : (events : List Event) (i : ℕ) (e : Event) → i < length events → get_or events i e ≡ e → drop i events ≡ e ∷ drop (i + 1) events
+events_left : (events : List ServerEvent) (i : ℕ) (e : ServerEvent) → i < length events → get_or events i e ≡ e → drop i events ≡ e ∷ drop (i + 1) events
 events_left events i e h is = drop-cons events i e h ∙ rw (is, add-one) refl
 
 -- the text after one more event
-pub text_more : (number : ℕ) (events : List Event) (e : Event) → text_fed number (events ++ e ∷ []) ≡ text_fed number events ++ bytes_fed number e
+pub text_more : (number : ℕ) (events : List ServerEvent) (e : ServerEvent) → text_fed number (events ++ e ∷ []) ≡ text_fed number events ++ bytes_fed number e
 text_more number events e =
     flat_map-append (λ event. bytes_fed number event) events (e ∷ []) ∙ ap (λ (xs : List ℕ). text_fed number events ++ xs) (append-nil (bytes_fed number e))
 
-pub text_turn : (number connection moment : ℕ) (events : List Event) → text_fed number (events ++ Turn connection moment ∷ []) ≡ text_fed number events
+pub text_turn : (number connection moment : ℕ) (events : List ServerEvent) → text_fed number (events ++ Turn connection moment ∷ []) ≡ text_fed number events
 text_turn number connection moment events = text_more number events (Turn connection moment) ∙ append-nil (text_fed number events)
 
 -- how many were taken of a connection, by the turns
@@ -101,16 +101,16 @@ has_none opening number text history c h e =
     let past : length (requests_of text) ≤ turns_by number (turns_of history) = omega (arith, len, length-append (taken_of number history) [], taken_by number history) in
     grind (arith, nat_tests, past)
 
-pub served_one : (before : List Event) (served : List (ℕ × ℕ)) (number moment : ℕ) → finds_one number before served ≡ true
+pub served_one : (before : List ServerEvent) (served : List (ℕ × ℕ)) (number moment : ℕ) → finds_one number before served ≡ true
     → served_with before served (Turn number moment) ≡ served ++ (number, moment) ∷ []
 served_one before served number moment h = rw h refl
 
-pub served_none : (before : List Event) (served : List (ℕ × ℕ)) (number moment : ℕ) → finds_one number before served ≡ false
+pub served_none : (before : List ServerEvent) (served : List (ℕ × ℕ)) (number moment : ℕ) → finds_one number before served ≡ false
     → served_with before served (Turn number moment) ≡ served
 served_none before served number moment h = rw h refl
 
 -- an event that was played, from what it leaves of the server
-goes_on : (opening : CacheState) (connections : ℕ) (events : List Event) (i number : ℕ) (e : Event) (old new : ServerState) (before after : ConnectionState) (history : List Entry)
+goes_on : (opening : CacheState) (connections : ℕ) (events : List ServerEvent) (i number : ℕ) (e : ServerEvent) (old new : ServerState) (before after : ConnectionState) (history : List Entry)
     → i < length events → get_or events i e ≡ e → (h : Played opening connections events i old)
     → connection_at old number ≡ Some before → new.connections ≡ updated number after old.connections
     → ServerHolds opening (texts_fed (take i events ++ e ∷ [])) (λ _. []) history new
@@ -122,15 +122,15 @@ goes_on opening connections events i number e old new before after history insid
     record {
       history = history;
       are_open = at_each number before after old.connections new.connections was updates (λ m c. m < connections → IsSome c) (λ _. refl) (λ m differ. h.are_open m);
-      holds = subst (λ (es : List Event). ServerHolds opening (texts_fed es) (λ _. []) history new) (sym more) holds;
-      turns = ap (λ (es : List Event). turns_served es (turns_of history) (drop (i + 1) events)) more
+      holds = subst (λ (es : List ServerEvent). ServerHolds opening (texts_fed es) (λ _. []) history new) (sym more) holds;
+      turns = ap (λ (es : List ServerEvent). turns_served es (turns_of history) (drop (i + 1) events)) more
           ∙ ap (λ (turns : List (ℕ × ℕ)). turns_served (take i events ++ e ∷ []) turns (drop (i + 1) events)) (sym served)
-          ∙ ap (λ (es : List Event). turns_served (take i events) (turns_of h.history) es) (sym left)
+          ∙ ap (λ (es : List ServerEvent). turns_served (take i events) (turns_of h.history) es) (sym left)
           ∙ h.turns;
     }
 
 -- a turn that finds none leaves the history
-waits : (opening : CacheState) (connections : ℕ) (events : List Event) (i number moment : ℕ) (old new : ServerState) (before after : ConnectionState)
+waits : (opening : CacheState) (connections : ℕ) (events : List ServerEvent) (i number moment : ℕ) (old new : ServerState) (before after : ConnectionState)
     → i < length events → get_or events i (Turn number moment) ≡ Turn number moment → (h : Played opening connections events i old)
     → connection_at old number ≡ Some before → new.connections ≡ updated number after old.connections
     → rest_of before.reader [] ≡ [] → ServerHolds opening (texts_fed (take i events)) (λ _. []) h.history new
@@ -143,7 +143,7 @@ waits opening connections events i number moment old new before after inside is 
     (served_none (take i events) (turns_of h.history) number moment finds)
 
 -- a turn that takes one adds it to the history
-takes : (opening : CacheState) (connections : ℕ) (events : List Event) (i number moment : ℕ) (old new : ServerState)
+takes : (opening : CacheState) (connections : ℕ) (events : List ServerEvent) (i number moment : ℕ) (old new : ServerState)
     → i < length events → get_or events i (Turn number moment) ≡ Turn number moment → Played opening connections events i old → Steps number old new (IsTurn number moment Took)
     → Played opening connections events (i + 1) new
 takes opening connections events i number moment old new inside is h steps =
@@ -160,7 +160,7 @@ takes opening connections events i number moment old new inside is h steps =
 closed_rest : (c : ConnectionState) → c.reader.closed ≡ true → rest_of c.reader [] ≡ []
 closed_rest c h = rw h refl
 
-turns : (opening : CacheState) (connections : ℕ) (events : List Event) (i number moment : ℕ) (old new : ServerState) (turned : Turned)
+turns : (opening : CacheState) (connections : ℕ) (events : List ServerEvent) (i number moment : ℕ) (old new : ServerState) (turned : Turned)
     → i < length events → get_or events i (Turn number moment) ≡ Turn number moment → Played opening connections events i old → Steps number old new (IsTurn number moment turned)
     → Played opening connections events (i + 1) new
 turns opening connections events i number moment old new Took inside is h steps = takes opening connections events i number moment old new inside is h steps
@@ -172,7 +172,7 @@ turns opening connections events i number moment old new Closing inside is h ste
     (ServerHolds-closing opening (texts_fed (take i events)) (λ _. []) h.history number moment old new h.holds steps)
 
 -- one event is played
-pub plays : (opening : CacheState) (connections : ℕ) (events : List Event) (i : ℕ) (e : Event) (old new : ServerState)
+pub plays : (opening : CacheState) (connections : ℕ) (events : List ServerEvent) (i : ℕ) (e : ServerEvent) (old new : ServerState)
     → i < length events → get_or events i e ≡ e → Played opening connections events i old → Plays e old new → Played opening connections events (i + 1) new
 plays opening connections events i (Bytes number bytes) old new inside is h steps =
     let so_far = texts_fed (take i events) in
@@ -202,12 +202,12 @@ all_played script i server past h =
     let all : take i script.events ≡ script.events = take_all i script.events past in
     let none : drop i script.events ≡ [] = drop_all i script.events past in
     let holds : ServerHolds opening (texts_fed script.events) (λ _. []) h.history server =
-    subst (λ (es : List Event). ServerHolds opening (texts_fed es) (λ _. []) h.history server) all h.holds in
+    subst (λ (es : List ServerEvent). ServerHolds opening (texts_fed es) (λ _. []) h.history server) all h.holds in
     record {
       history = h.history;
       legal = holds.cache.legal;
       taken = λ number. taken_is_first opening (texts_fed script.events) (λ _. []) h.history server number holds;
-      turns = ap (λ (es : List Event). turns_served (take i script.events) (turns_of h.history) es) (sym none) ∙ h.turns;
+      turns = ap (λ (es : List ServerEvent). turns_served (take i script.events) (turns_of h.history) es) (sym none) ∙ h.turns;
       answered = same_map (λ number. output_of (connection_at server number)) (λ number. answers_to number opening h.history) 0 script.connections
           (λ number low high. output_at opening number (text_fed number script.events) h.history (connection_at server number) (h.are_open number (omega arith)) (holds.each number));
     }

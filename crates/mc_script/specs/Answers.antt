@@ -8,16 +8,16 @@ use Rattle.mc_cache.specs.CacheState.{CacheState, opening_cache}
 use Rattle.mc_server.specs.Served.{Entry}
 use Rattle.mc_server.specs.Histories.{answers_to, taken_of, turns_of, IsLegalHistory}
 use Rattle.mc_script.specs.Scripts.{ScriptSeen}
-use Rattle.mc_script.specs.declared.events.Event.{Event}
-use Rattle.mc_script.specs.declared.events.Event.TheVariants.{Bytes, Turn}
+use Rattle.mc_script.specs.declared.events.ServerEvent.{ServerEvent}
+use Rattle.mc_script.specs.declared.events.ServerEvent.TheVariants.{Bytes, Turn}
 
 -- the bytes that an event feeds to the connection of a number
-abbrev pub bytes_fed : ℕ → Event → List ℕ
+abbrev pub bytes_fed : ℕ → ServerEvent → List ℕ
 bytes_fed number (Bytes connection bytes) = if connection == number then bytes else []
 bytes_fed number (Turn connection moment) = []
 
 -- a connection's text: all bytes that the events feed to it
-abbrev pub text_fed : ℕ → List Event → List ℕ
+abbrev pub text_fed : ℕ → List ServerEvent → List ℕ
 text_fed number events = flat_map (λ event. bytes_fed number event) events
 
 -- how many of these turns, each a connection and a moment, are of the connection of a number
@@ -26,17 +26,17 @@ turns_by number turns = count_by (λ turn. turn.0 == number) turns
 
 -- whether a turn of the connection of a number finds a request or fault, after these events, and after these turns
 -- were served: its text so far has one more than were taken of it
-abbrev pub finds_one : ℕ → List Event → List (ℕ × ℕ) → Bool
+abbrev pub finds_one : ℕ → List ServerEvent → List (ℕ × ℕ) → Bool
 finds_one number before served = nat_lt (turns_by number served) (length (requests_of (text_fed number before)))
 
 -- the turns that were served, with this event if it is a turn that finds one
-abbrev pub served_with : List Event → List (ℕ × ℕ) → Event → List (ℕ × ℕ)
+abbrev pub served_with : List ServerEvent → List (ℕ × ℕ) → ServerEvent → List (ℕ × ℕ)
 served_with before served (Bytes connection bytes) = served
 served_with before served (Turn connection moment) =
     if finds_one connection before served then served ++ (connection, moment) ∷ [] else served
 
 -- the turns that are served at the end, when these events remain
-abbrev pub turns_served : List Event → List (ℕ × ℕ) → List Event → List (ℕ × ℕ)
+abbrev pub turns_served : List ServerEvent → List (ℕ × ℕ) → List ServerEvent → List (ℕ × ℕ)
 turns_served before served [] = served
 turns_served before served (event ∷ events) = turns_served (before ++ event ∷ []) (served_with before served event) events
 

@@ -5,8 +5,8 @@ use Rattle.mc_cache.specs.CacheState.{CacheState}
 use Rattle.mc_server.specs.ServerState.{ServerState, connection_at, fresh_connection, output_of}
 use Rattle.mc_server.specs.Turns.{Feeds, IsTurn, Steps}
 use Rattle.mc_server.specs.declared.turns.Turn.{Turn as Turned}
-use Rattle.mc_script.specs.declared.events.Event.{Event}
-use Rattle.mc_script.specs.declared.events.Event.TheVariants.{Bytes, Turn}
+use Rattle.mc_script.specs.declared.events.ServerEvent.{ServerEvent}
+use Rattle.mc_script.specs.declared.events.ServerEvent.TheVariants.{Bytes, Turn}
 
 -- a server over a cache that has admitted this number of connections, from which no byte has
 -- arrived
@@ -18,7 +18,7 @@ opened cache count = record {
 }
 
 -- the event's connection is fed, or takes a turn at the event's moment
-abbrev pub Plays : Event → ServerState → ServerState → Type 0
+abbrev pub Plays : ServerEvent → ServerState → ServerState → Type 0
 Plays (Bytes connection bytes) old new = Steps connection old new (Feeds bytes)
 Plays (Turn connection moment) old new = (turned : Turned) × Steps connection old new (IsTurn connection moment turned)
 

@@ -15,7 +15,7 @@ pub struct Script {
     /// How many items the server has room for: 1 to 16,777,216.
     pub items: usize,
     /// The events of the server, in order.
-    pub events: Vec<Event>,
+    pub events: Vec<ServerEvent>,
     ghost few: { connections ≤ 1024 },
     ghost bounds: { IsWithinBounds budget items },
     ghost all: { All (IsEventOf connections) events.items },
@@ -23,7 +23,7 @@ pub struct Script {
 
 /// An event of a server.
 #[derive(Debug, Drop)]
-pub enum Event {
+pub enum ServerEvent {
     /// The next bytes of a client arrive.
     Bytes {
         /// The number of the client's connection.

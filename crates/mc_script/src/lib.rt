@@ -30,7 +30,7 @@ pub use errors::{Side, SimError};
 pub use escapes::{
     escaped_is_read_again, hex_value, push_client_line, push_escaped, push_named_line, read_escaped,
 };
-pub use events::{Event, Script};
+pub use events::{Script, ServerEvent};
 pub use input::read_input;
 pub use laws::{one_output, only_output, some_output};
 pub use lines::{LineIter, cut_at_space, lines_of};

@@ -9,7 +9,7 @@ ghost use Rattle.mc_script.specs.ScriptSeen.{script_seen};
 
 use crate::errors::SimError;
 use crate::escapes::push_client_line;
-use crate::events::{Event, Script};
+use crate::events::{Script, ServerEvent};
 use crate::stores::ScriptStore;
 use mc_cache::Cache;
 use mc_item::CasCounter;
@@ -76,15 +76,15 @@ fn admit<S: ScriptStore>(server: &mut Server<S>) -> Result<(), SimError>
 }
 
 /// Plays one event.
-fn play<S: ScriptStore>(server: &mut Server<S>, event: &Event) -> Result<(), SimError>
+fn play<S: ScriptStore>(server: &mut Server<S>, event: &ServerEvent) -> Result<(), SimError>
     requires connection { IsSome (connection_at server.old (number_of event.now)) }
     requires moment { moment_of event.now < 2 ^ 63 }
     ensures played { OnOk result (Plays event.now server.old server.new) }
     ensures only_memory { IsOkUnless result SimError.Memory }
 {
     refused_memory_alone(match event {
-        Event::Bytes { connection, bytes } => server.feed(*connection, bytes.as_slice()),
-        Event::Turn { connection, moment } => server.turn(*connection, *moment).map(|_| ()),
+        ServerEvent::Bytes { connection, bytes } => server.feed(*connection, bytes.as_slice()),
+        ServerEvent::Turn { connection, moment } => server.turn(*connection, *moment).map(|_| ()),
     })
 }
 

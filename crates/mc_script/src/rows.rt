@@ -3,7 +3,7 @@
 
 ghost use Rattle.std.specs.Prelude.{◌≡◌, [], ◌∷◌, codes};
 ghost use Rattle.mc_script.specs.Answers.{text_fed, turns_served};
-ghost use Rattle.mc_script.specs.declared.events.Event.TheVariants.{Bytes, Turn};
+ghost use Rattle.mc_script.specs.declared.events.ServerEvent.TheVariants.{Bytes, Turn};
 
 /// A connection's text is the bytes that the events feed to it, joined; the others' bytes and all turns are ignored.
 pub fn texts_by_connection()

@@ -8,7 +8,7 @@ ghost use Rattle.mc_cache.specs.CacheState.{IsWithinBounds};
 
 use crate::errors::SimError;
 use crate::escapes::{is_escaped, read_escaped};
-use crate::events::{Event, Script};
+use crate::events::{Script, ServerEvent};
 use crate::lines::{LineIter, cut_at_space, lines_of};
 use crate::numbers::{read_limit, read_moment, read_place};
 use mc_cache::{MAX_BUDGET, MAX_ITEMS};
@@ -80,7 +80,11 @@ fn read_lines(alloc: Global, input: &[u8]) -> Result<Script, SimError>
 }
 
 /// The events of lines, one each, of this number of connections.
-fn read_events(alloc: Global, connections: u64, lines: LineIter<'_>) -> Result<Vec<Event>, SimError>
+fn read_events(
+    alloc: Global,
+    connections: u64,
+    lines: LineIter<'_>,
+) -> Result<Vec<ServerEvent>, SimError>
     ensures events { IfOk result (λ events. events_of connections lines.entry ≡ Ok events.items) }
     ensures all { IfOk result (λ events. All (IsEventOf connections) events.items) }
     ensures error { IfErr result (λ error. Explains error (events_of connections lines.entry)) }
@@ -112,7 +116,11 @@ fn read_server(line: &[u8]) -> Option<(u64, u64, usize)>
 }
 
 /// The event of a line, of one of this number of connections.
-fn read_event(alloc: Global, connections: u64, line: &[u8]) -> Result<Option<Event>, AllocError>
+fn read_event(
+    alloc: Global,
+    connections: u64,
+    line: &[u8],
+) -> Result<Option<ServerEvent>, AllocError>
     ensures event { IfOk result (λ event. event ≡ event_of connections line.now) }
     ensures of { IfOk result (λ event. IfSome event (λ event. IsEventOf connections event)) }
 {
@@ -151,18 +159,18 @@ fn read_event_named(
     name: &[u8],
     connection: u64,
     rest: &[u8],
-) -> Result<Option<Event>, AllocError>
+) -> Result<Option<ServerEvent>, AllocError>
     ensures event { IfOk result (λ event. event ≡ event_named name.now connection rest.now) }
     ensures of { IfOk result (λ event. IfSome event (λ event. (connections : ℕ) → connection < connections → IsEventOf connections event)) }
 {
     if name == b"bytes".as_slice() {
-        return Ok(read_escaped(alloc, rest)?.map(|bytes| Event::Bytes {
+        return Ok(read_escaped(alloc, rest)?.map(|bytes| ServerEvent::Bytes {
             connection,
             bytes: Block::from(bytes),
         }));
     }
     if name == b"turn".as_slice() {
-        return Ok(read_moment(rest).map(|moment| Event::Turn { connection, moment }));
+        return Ok(read_moment(rest).map(|moment| ServerEvent::Turn { connection, moment }));
     }
     Ok(None)
 }

@@ -1,7 +1,7 @@
 use Rattle.std.proofs.Common.{◌≡◌, ◌<◌, ◌≤◌, ℕ, List, length, get_or, sym, subst}
 use Rattle.std.specs.List.{All}
 use Rattle.mc_server.specs.ServerState.{ServerState}
-use Rattle.mc_script.specs.declared.events.Event.{Event}
+use Rattle.mc_script.specs.declared.events.ServerEvent.{ServerEvent}
 use Rattle.mc_script.specs.Answers.{cache_of}
 use Rattle.mc_script.specs.Events.{IsEventOf, number_of}
 use Rattle.mc_script.specs.ScriptSeen.{script_seen}
@@ -16,12 +16,12 @@ loop-event-init g c =
     (played_none opening script.connections script.events.items)
 
 -- the event at a place is one of the script
-event_at : (connections : ℕ) (events seen : List Event) (i : ℕ) (e : Event) → seen ≡ events → i < length seen → e ≡ get_or seen i e → All (λ x. IsEventOf connections x) events
+event_at : (connections : ℕ) (events seen : List ServerEvent) (i : ℕ) (e : ServerEvent) → seen ≡ events → i < length seen → e ≡ get_or seen i e → All (λ x. IsEventOf connections x) events
     → IsEventOf connections e
 event_at connections events seen i e value inside is all =
     let there : i < length events = rw (← value) inside in
     let found : get_or events i e ≡ e = rw (← value) (sym is) in
-    subst (λ (x : Event). IsEventOf connections x) found (all i e there)
+    subst (λ (x : ServerEvent). IsEventOf connections x) found (all i e there)
 
 pub play-requires-clause-connection : goal.play-requires-clause-connection
 play-requires-clause-connection g c =
