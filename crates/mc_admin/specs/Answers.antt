@@ -5,8 +5,8 @@ use Rattle.http1.specs.Head.{response_text}
 use Rattle.mc_admin.specs.Pages.{stats_text, settings_text, metrics_text, end_line}
 use Rattle.mc_admin.specs.Conns.{part_text}
 use Rattle.mc_admin.specs.declared.conns.Part.{Part}
-use Rattle.mc_admin.specs.declared.asked.Asked.{Asked}
-use Rattle.mc_admin.specs.declared.asked.Asked.TheVariants.{Stats, Settings, Conns, Nothing, Version, Quit, Unknown, TooLong, Shown, Refused}
+use Rattle.mc_admin.specs.declared.asked.AdminRequest.{AdminRequest}
+use Rattle.mc_admin.specs.declared.asked.AdminRequest.TheVariants.{Stats, Settings, Conns, Nothing, Version, Quit, Unknown, TooLong, Shown, Refused}
 use Rattle.mc_admin.specs.declared.asked.Page.TheVariants.{Overview, Metrics, Health}
 use Rattle.mc_admin.specs.declared.asked.Refusal.{Refusal}
 use Rattle.mc_admin.specs.declared.asked.Refusal.TheVariants.{BadRequest, NotFound, NotAllowed, NoBody, Misdirected, TooLarge}
@@ -79,7 +79,7 @@ abbrev pub overview_fields : List Header
 overview_fields = (codes "content-security-policy", policy_text) ∷ (codes "x-content-type-options", codes "nosniff") ∷ []
 
 -- the answer to what is asked
-unfoldable pub answer_to : Asked → Sheet → List ℕ
+unfoldable pub answer_to : AdminRequest → Sheet → List ℕ
 answer_to Stats sheet = stats_text sheet.figures.now
 answer_to Settings sheet = settings_text sheet.settings.now
 answer_to Conns sheet = part_text sheet.part
@@ -99,6 +99,6 @@ has_next None = true
 has_next (Some part) = is_some part.next
 
 -- whether the next turn answers the same request further: a list of clients is sent in parts
-abbrev pub is_listed_on : Asked → Sheet → Bool
+abbrev pub is_listed_on : AdminRequest → Sheet → Bool
 is_listed_on Conns sheet = has_next sheet.part
 is_listed_on _ sheet = false

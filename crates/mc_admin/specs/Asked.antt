@@ -7,8 +7,8 @@ use Rattle.httparse.specs.Spans.{name_and_value}
 use Rattle.http1.specs.Fields.{values_named}
 use Rattle.mc_admin.specs.Hosts.{host_of, is_known}
 use Rattle.mc_admin.specs.Requests.{InboxState}
-use Rattle.mc_admin.specs.declared.asked.Asked.{Asked}
-use Rattle.mc_admin.specs.declared.asked.Asked.TheVariants.{Stats, Settings, Conns, Nothing, Version, Quit, Unknown, TooLong, Shown, Refused}
+use Rattle.mc_admin.specs.declared.asked.AdminRequest.{AdminRequest}
+use Rattle.mc_admin.specs.declared.asked.AdminRequest.TheVariants.{Stats, Settings, Conns, Nothing, Version, Quit, Unknown, TooLong, Shown, Refused}
 use Rattle.mc_admin.specs.declared.asked.Page.{Page}
 use Rattle.mc_admin.specs.declared.asked.Page.TheVariants.{Overview, Metrics, Health}
 use Rattle.mc_admin.specs.declared.asked.Refusal.{Refusal}
@@ -31,7 +31,7 @@ content_of line = without_blanks (strip_carriage_return (take (length line - 1) 
 
 -- what a line asks for
 -- source: memcached's protocol.txt, "Statistics", "version", "quit"
-abbrev pub named : List ℕ → Asked
+abbrev pub named : List ℕ → AdminRequest
 named word =
     if bytes_eq word (codes "stats") then Stats
     else if bytes_eq word (codes "stats settings") then Settings
@@ -79,12 +79,12 @@ pub record ReadsPage (hosts : Hosts) (text : List ℕ) (r : Result Page Refusal)
   pub refused : HasNoRequest text → r ≡ Err BadRequest
 
 -- a page, or its refusal
-abbrev pub shown : Result Page Refusal → Asked
+abbrev pub shown : Result Page Refusal → AdminRequest
 shown (Ok page) = Shown page
 shown (Err refusal) = Refused refusal
 
 -- what a request asks for, by how far it is: nothing, until it has ended
-abbrev pub asks_in : Phase → Hosts → List ℕ → Option Asked → Type 0
+abbrev pub asks_in : Phase → Hosts → List ℕ → Option AdminRequest → Type 0
 asks_in LineEnded hosts text r = r ≡ Some (named (content_of text))
 asks_in HeadEnded hosts text r = (page : Result Page Refusal) × ReadsPage hosts text page × (r ≡ Some (shown page))
 asks_in LineTooLong hosts text r = r ≡ Some TooLong
@@ -92,11 +92,11 @@ asks_in HeadTooLarge hosts text r = r ≡ Some (Refused TooLarge)
 asks_in _ hosts text r = r ≡ None
 
 -- what a request asks for
-abbrev pub Asks : Hosts → InboxState → Option Asked → Type 0
+abbrev pub Asks : Hosts → InboxState → Option AdminRequest → Type 0
 Asks hosts s r = asks_in s.phase hosts s.text r
 
 -- after it the connection is closed: lines except `quit` and one too long go on
-abbrev pub ends : Asked → Bool
+abbrev pub ends : AdminRequest → Bool
 ends Stats = false
 ends Settings = false
 ends Conns = false

@@ -3,7 +3,7 @@ use Rattle.std.specs.Prelude.{◌≡◌, ℕ, Bool, true, false, List, [], Optio
 use Rattle.mc_admin.specs.Requests.{InboxState, fresh_inbox, taking}
 use Rattle.mc_admin.specs.Asked.{Asks, ends}
 use Rattle.mc_admin.specs.Answers.{answer_to, is_listed_on}
-use Rattle.mc_admin.specs.declared.asked.Asked.{Asked}
+use Rattle.mc_admin.specs.declared.asked.AdminRequest.{AdminRequest}
 use Rattle.mc_admin.specs.declared.figures.Sheet.{Sheet}
 use Rattle.mc_admin.specs.declared.hosts.Hosts.{Hosts}
 
@@ -25,7 +25,7 @@ left_by false inbox = fresh_inbox
 
 -- A turn: the request takes what was read until it ends. If it has ended, what it asks for is answered, and the next one begins, unless
 -- this one is answered further; after some answers the connection is closed. Source: this project's own.
-abbrev pub Turns : Hosts → Sheet → Option Asked → TalkState → TalkState → Type 0
+abbrev pub Turns : Hosts → Sheet → Option AdminRequest → TalkState → TalkState → Type 0
 Turns hosts sheet (Some asked) before after =
     Asks hosts (taking before.inbox before.unread).0 (Some asked)
     × (after ≡ record {

@@ -4,7 +4,7 @@ ghost use Rattle.http1.specs.Head.{pairs, header_parts};
 ghost use Rattle.mc_admin.specs.Answers.{answer_to, is_listed_on, response, fields_of, overview_fields, metrics_type, plain_type, status_of, reason_of, words_of};
 ghost use Rattle.mc_admin.specs.Asked.{ends};
 
-use crate::asked::{Asked, Page, Refusal};
+use crate::asked::{AdminRequest, Page, Refusal};
 use crate::conns::push_part;
 use crate::errors::AdminError;
 use crate::figures::Sheet;
@@ -26,21 +26,25 @@ const HTML_TYPE: &[u8] = b"text/html; charset=utf-8";
 
 /// Returns the answer to what is asked, given the program's report.
 #[tactic(auto, unfolding(crate::specs::Answers::answer_to))]
-pub fn answer_to(alloc: Global, asked: Asked, sheet: &Sheet<'_>) -> Result<Vec<u8>, AdminError>
+pub fn answer_to(
+    alloc: Global,
+    asked: AdminRequest,
+    sheet: &Sheet<'_>,
+) -> Result<Vec<u8>, AdminError>
     ensures { IfOk result (λ answer. answer.items ≡ answer_to asked sheet.now) }
 {
     let mut answer = Vec::new(alloc);
     match asked {
-        Asked::Stats => push_stats(sheet.figures, &mut answer)?,
-        Asked::Settings => push_settings(sheet.settings, &mut answer)?,
-        Asked::Conns => push_part(sheet.part, &mut answer)?,
-        Asked::Nothing => answer.extend_from_slice(b"END\r\n")?,
-        Asked::Version => answer.extend_from_slice(b"VERSION 1.6.0\r\n")?,
-        Asked::Quit => {}
-        Asked::Unknown => answer.extend_from_slice(b"ERROR\r\n")?,
-        Asked::TooLong => answer.extend_from_slice(b"CLIENT_ERROR line too long\r\n")?,
-        Asked::Shown(page) => push_page(alloc, page, sheet, &mut answer)?,
-        Asked::Refused(refusal) => push_refusal(refusal, &mut answer)?,
+        AdminRequest::Stats => push_stats(sheet.figures, &mut answer)?,
+        AdminRequest::Settings => push_settings(sheet.settings, &mut answer)?,
+        AdminRequest::Conns => push_part(sheet.part, &mut answer)?,
+        AdminRequest::Nothing => answer.extend_from_slice(b"END\r\n")?,
+        AdminRequest::Version => answer.extend_from_slice(b"VERSION 1.6.0\r\n")?,
+        AdminRequest::Quit => {}
+        AdminRequest::Unknown => answer.extend_from_slice(b"ERROR\r\n")?,
+        AdminRequest::TooLong => answer.extend_from_slice(b"CLIENT_ERROR line too long\r\n")?,
+        AdminRequest::Shown(page) => push_page(alloc, page, sheet, &mut answer)?,
+        AdminRequest::Refused(refusal) => push_refusal(refusal, &mut answer)?,
     }
     Ok(answer)
 }
@@ -53,7 +57,7 @@ fn push_page(
     sheet: &Sheet<'_>,
     answer: &mut Vec<u8>,
 ) -> Result<(), AdminError>
-    ensures { OnOk result (answer.new.items ≡ answer.old.items ++ answer_to (Asked.Shown page) sheet.now) }
+    ensures { OnOk result (answer.new.items ≡ answer.old.items ++ answer_to (AdminRequest.Shown page) sheet.now) }
 {
     match page {
         Page::Overview => push_response(
@@ -179,23 +183,23 @@ fn words_of(refusal: Refusal) -> &'static [u8]
 }
 
 /// Returns whether the connection is closed after what is asked was answered.
-pub fn ends(asked: Asked) -> bool
+pub fn ends(asked: AdminRequest) -> bool
     ensures { result ≡ ends asked }
 {
     match asked {
-        Asked::Stats | Asked::Settings | Asked::Conns => false,
-        Asked::Nothing | Asked::Version | Asked::Unknown => false,
+        AdminRequest::Stats | AdminRequest::Settings | AdminRequest::Conns => false,
+        AdminRequest::Nothing | AdminRequest::Version | AdminRequest::Unknown => false,
         _ => true,
     }
 }
 
 /// Returns whether the next turn answers the same request further: a list of clients is sent in parts.
-pub fn is_listed_on(asked: Asked, sheet: &Sheet<'_>) -> bool
+pub fn is_listed_on(asked: AdminRequest, sheet: &Sheet<'_>) -> bool
     ensures { result ≡ is_listed_on asked sheet.now }
 {
     match (asked, sheet.part) {
-        (Asked::Conns, Some(part)) => part.next.is_some(),
-        (Asked::Conns, None) => true,
+        (AdminRequest::Conns, Some(part)) => part.next.is_some(),
+        (AdminRequest::Conns, None) => true,
         _ => false,
     }
 }

@@ -31,7 +31,7 @@ pub enum Refusal {
 
 /// What a line, or a request of HTTP, asks for.
 #[derive(Clone, Copy, Debug, PartialEq, Eq)]
-pub enum Asked {
+pub enum AdminRequest {
     /// The figures, as memcached's statistics.
     Stats,
     /// The settings.

@@ -19,7 +19,7 @@ mod pages;
 mod talks;
 
 pub use answers::{answer_to, ends, is_listed_on};
-pub use asked::{Asked, Page, Refusal};
+pub use asked::{AdminRequest, Page, Refusal};
 pub use conns::{Conn, Part};
 pub use errors::AdminError;
 pub use figures::{Figure, Setting, Sheet, Value};

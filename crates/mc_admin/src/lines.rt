@@ -2,32 +2,32 @@
 ghost use Rattle.std.specs.Prelude.{◌≡◌};
 ghost use Rattle.mc_admin.specs.Asked.{Asks, ReadsPage, shown, named, content_of, without_blanks};
 
-use crate::asked::{Asked, Page, Refusal};
+use crate::asked::{AdminRequest, Page, Refusal};
 use crate::heads::page_of;
 use crate::hosts::Hosts;
 use crate::inboxes::{Inbox, Phase, without_carriage_return};
 use httparse::is_space_or_tab;
 
 /// Returns what a request asks for, given the program's own hosts; none until it has ended.
-pub fn asked_of(inbox: &Inbox, hosts: &Hosts<'_>) -> Option<Asked>
+pub fn asked_of(inbox: &Inbox, hosts: &Hosts<'_>) -> Option<AdminRequest>
     ensures { Asks hosts.now inbox.now result }
 {
     match inbox.phase() {
         Phase::LineEnded => Some(named(content_of(inbox.text()))),
         Phase::HeadEnded => Some(shown(page_of(inbox.text(), hosts))),
-        Phase::LineTooLong => Some(Asked::TooLong),
-        Phase::HeadTooLarge => Some(Asked::Refused(Refusal::TooLarge)),
+        Phase::LineTooLong => Some(AdminRequest::TooLong),
+        Phase::HeadTooLarge => Some(AdminRequest::Refused(Refusal::TooLarge)),
         _ => None,
     }
 }
 
 /// Returns a page, or its refusal.
-fn shown(page: Result<Page, Refusal>) -> Asked
+fn shown(page: Result<Page, Refusal>) -> AdminRequest
     ensures { result ≡ shown page }
 {
     match page {
-        Ok(page) => Asked::Shown(page),
-        Err(refusal) => Asked::Refused(refusal),
+        Ok(page) => AdminRequest::Shown(page),
+        Err(refusal) => AdminRequest::Refused(refusal),
     }
 }
 
@@ -54,22 +54,22 @@ fn without_blanks(text: &[u8]) -> &[u8]
 }
 
 /// Returns what a line asks for.
-fn named(word: &[u8]) -> Asked
+fn named(word: &[u8]) -> AdminRequest
     ensures { result ≡ named word.now }
 {
     if word == b"stats".as_slice() {
-        Asked::Stats
+        AdminRequest::Stats
     } else if word == b"stats settings".as_slice() {
-        Asked::Settings
+        AdminRequest::Settings
     } else if word == b"stats conns".as_slice() {
-        Asked::Conns
+        AdminRequest::Conns
     } else if word == b"stats items".as_slice() || word == b"stats slabs".as_slice() {
-        Asked::Nothing
+        AdminRequest::Nothing
     } else if word == b"version".as_slice() {
-        Asked::Version
+        AdminRequest::Version
     } else if word == b"quit".as_slice() {
-        Asked::Quit
+        AdminRequest::Quit
     } else {
-        Asked::Unknown
+        AdminRequest::Unknown
     }
 }

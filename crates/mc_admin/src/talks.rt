@@ -2,7 +2,7 @@
 ghost use Rattle.std.specs.Prelude.{◌≤◌, length, vec_len, vec_capacity};
 
 use crate::answers::{answer_to, ends, is_listed_on};
-use crate::asked::Asked;
+use crate::asked::AdminRequest;
 use crate::errors::AdminError;
 use crate::figures::Sheet;
 use crate::hosts::Hosts;
@@ -101,7 +101,7 @@ impl Talk {
         &mut self,
         hosts: &Hosts<'_>,
         sheet: &Sheet<'_>,
-    ) -> Result<Option<Asked>, AdminError>
+    ) -> Result<Option<AdminRequest>, AdminError>
         requires { self.old.output ≡ [] }
         ensures { IfOk result (λ asked. Turns hosts.now sheet.now asked self.old self.new) }
     {

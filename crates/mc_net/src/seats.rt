@@ -5,7 +5,7 @@ ghost use Rattle.mc_net.specs.Listings.{listing_of};
 use crate::budgets::Budget;
 use crate::inputs::{Edge, Input};
 use crate::steps::AfterPump;
-use mc_admin::{AdminError, Asked, Hosts, REQUEST_LIMIT, Sheet, Talk};
+use mc_admin::{AdminError, AdminRequest, Hosts, REQUEST_LIMIT, Sheet, Talk};
 use mc_stream::{Pumped, read_once, write_once};
 use mio::event::Event;
 use mio::net::TcpStream;
@@ -204,7 +204,7 @@ impl Seat {
         let Ok(asked) = self.talk.turn(&hosts, sheet) else {
             return Some(AfterPump::Close);
         };
-        if asked == Some(Asked::Conns) {
+        if asked == Some(AdminRequest::Conns) {
             self.listing = match sheet.part.take() {
                 Some(part) => part.next,
                 None => Some(0),
