@@ -1,6 +1,6 @@
-//! The calls that a [`Logged`] forwards to the runtime within it.
+//! The calls that a [`LoggingRuntime`] forwards to the runtime within it.
 
-use crate::logs::Logged;
+use crate::logs::LoggingRuntime;
 use std::alloc::Allocator;
 use std::fmt::Display;
 use std::fs::{Metadata, OpenOptions, Permissions};
@@ -12,7 +12,7 @@ use std::rt::{Clock, Files};
 use std::sync::Wait;
 use std::time::Duration;
 
-impl<R: Alloc> Alloc for Logged<R> {
+impl<R: Alloc> Alloc for LoggingRuntime<R> {
     type A = R::A;
 
     fn alloc(&self) -> R::A {
@@ -20,7 +20,7 @@ impl<R: Alloc> Alloc for Logged<R> {
     }
 }
 
-impl<R: Print> Print for Logged<R> {
+impl<R: Print> Print for LoggingRuntime<R> {
     fn print<D: Display + Drop>(&self, value: D) -> io::Result<()> {
         self.rt.print(value)
     }
@@ -34,7 +34,7 @@ impl<R: Print> Print for Logged<R> {
     }
 }
 
-impl<R: Clock> Clock for Logged<R> {
+impl<R: Clock> Clock for LoggingRuntime<R> {
     fn monotonic(&self) -> io::Result<Duration> {
         self.rt.monotonic()
     }
@@ -48,15 +48,15 @@ impl<R: Clock> Clock for Logged<R> {
     }
 }
 
-impl<R: RandomSource> RandomSource for Logged<R> {
+impl<R: RandomSource> RandomSource for LoggingRuntime<R> {
     fn fill_bytes(&self, bytes: &mut [u8]) -> io::Result<()> {
         self.rt.fill_bytes(bytes)
     }
 }
 
-impl<R: Wait> Wait for Logged<R> {}
+impl<R: Wait> Wait for LoggingRuntime<R> {}
 
-impl<R: Net> Net for Logged<R> {
+impl<R: Net> Net for LoggingRuntime<R> {
     type Stream = R::Stream;
 
     type Listener = R::Listener;
@@ -70,7 +70,7 @@ impl<R: Net> Net for Logged<R> {
     }
 }
 
-impl<R: Files> Files for Logged<R> {
+impl<R: Files> Files for LoggingRuntime<R> {
     type File = R::File;
 
     type Dir = R::Dir;

@@ -3,7 +3,7 @@
 //! [`listen`], [`idle`], [`report`] and [`accept`] are options that such programs share, and [`number`], [`size`] and [`flag`] make others.
 //! [`size_within`] parses a number of bytes. [`Terms`] are what the words say of all clients, [`AdminTerms`] what they say of operators ([`admin`],
 //! [`admin_name`]), and [`VERSION`] is what `--version` prints. [`ServeError`] is why a program cannot serve, and [`ListenError`] why it cannot
-//! listen. [`is_read`] returns whether an operator reads standard error. [`Logged`] is a runtime whose lines on standard error have the [`Form`]
+//! listen. [`is_read`] returns whether an operator reads standard error. [`LoggingRuntime`] is a runtime whose lines on standard error have the [`Form`]
 //! that the words ask for ([`log`], [`LogOption`]); by [`EprintSeldom`] a line says how many like it were suppressed. [`open_streams`] opens
 //! `/dev/null` for standard input, output and error, if they are closed at the start.
 //!
@@ -39,7 +39,7 @@ pub use admins::{AdminTerms, admin, admin_name};
 pub use descriptors::{OWN_FILES, open_files, served, tell_open_files};
 pub use errors::{ListenError, ServeError};
 pub use failures::{Failure, exit_status};
-pub use logs::{EprintSeldom, Form, LogOption, Logged, Spelling, form_by, spelling_of};
+pub use logs::{EprintSeldom, Form, LogOption, LoggingRuntime, Spelling, form_by, spelling_of};
 pub use operators::is_read;
 pub use options::{accept, flag, idle, listen, log, number, report, size};
 pub use paces::{Pace, Said, Seldom, earlier};

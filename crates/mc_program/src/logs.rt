@@ -81,21 +81,21 @@ pub trait EprintSeldom: Eprint {
 ///
 /// The caller begins each line with the program's name, a colon and a space.
 #[derive(Clone, Copy, Debug, Drop)]
-pub struct Logged<R> {
+pub struct LoggingRuntime<R> {
     pub(crate) rt: R,
     program: &'static str,
     form: Form,
 }
 
-impl<R: Env + AllocGlobal> Logged<R> {
+impl<R: Env + AllocGlobal> LoggingRuntime<R> {
     /// Makes a runtime whose lines have the form that a program's option asks for.
-    pub fn new(rt: R, program: &'static str, option: LogOption) -> Logged<R> {
+    pub fn new(rt: R, program: &'static str, option: LogOption) -> LoggingRuntime<R> {
         let form = form_by(option, is_read(&rt, false));
-        Logged { rt, program, form }
+        LoggingRuntime { rt, program, form }
     }
 }
 
-impl<R: Eprint + Clock> Eprint for Logged<R> {
+impl<R: Eprint + Clock> Eprint for LoggingRuntime<R> {
     fn eprint<D: Display + Drop>(&self, value: D) -> io::Result<()> {
         self.rt.eprint(value)
     }
@@ -108,7 +108,7 @@ impl<R: Eprint + Clock> Eprint for Logged<R> {
     }
 }
 
-impl<R: Eprint + Clock> EprintSeldom for Logged<R> {
+impl<R: Eprint + Clock> EprintSeldom for LoggingRuntime<R> {
     fn eprintln_seldom<D: Display + Drop>(&self, line: D, suppressed: u64) -> io::Result<()> {
         let event = Event {
             form: self.form,
@@ -121,7 +121,7 @@ impl<R: Eprint + Clock> EprintSeldom for Logged<R> {
     }
 }
 
-impl<R: Clock> Logged<R> {
+impl<R: Clock> LoggingRuntime<R> {
     /// Returns the wall clock; the beginning of 1970 if it is before that, or cannot be read.
     fn time(&self) -> Timestamp {
         let since = self.rt.since_1970();

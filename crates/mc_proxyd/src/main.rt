@@ -61,8 +61,8 @@ use clap::ArgMatches;
 use lists::Mistake;
 use mc_net::{Operators, bind};
 use mc_program::{
-    EprintSeldom, Failure, LogOption, Logged, ServeError, exit_status, is_read, open_streams,
-    read_words, tell_open_files,
+    EprintSeldom, Failure, LogOption, LoggingRuntime, ServeError, exit_status, is_read,
+    open_streams, read_words, tell_open_files,
 };
 use mc_proxy::{Losses, MAX_SESSIONS};
 use mc_ring::Ring;
@@ -85,7 +85,7 @@ fn main(rt: HostRuntime) -> ExitCode {
     let mut option = LogOption::Nothing;
     let served = run(&rt, &mut option);
     if let Err(failure) = &served {
-        failure.tell(&Logged::new(&rt, PROGRAM, option), PROGRAM);
+        failure.tell(&LoggingRuntime::new(&rt, PROGRAM, option), PROGRAM);
     }
     ExitCode::from(exit_status(&served))
 }
@@ -101,7 +101,7 @@ where
     let words = read_words(rt)?;
     let matches = command(alloc)?.try_get_matches_from(words.as_slice())?;
     *option = LogOption::of(&matches);
-    let logged = Logged::new(rt, PROGRAM, *option);
+    let logged = LoggingRuntime::new(rt, PROGRAM, *option);
     let Options {
         listen,
         ring,

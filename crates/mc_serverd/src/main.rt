@@ -42,8 +42,8 @@ use clocks::SystemSeconds;
 use hosts::other_files;
 use mc_net::{Operators, bind};
 use mc_program::{
-    EprintSeldom, Failure, LogOption, Logged, ServeError, exit_status, is_read, open_streams,
-    read_words, tell_open_files,
+    EprintSeldom, Failure, LogOption, LoggingRuntime, ServeError, exit_status, is_read,
+    open_streams, read_words, tell_open_files,
 };
 use mc_server::MAX_CONNECTIONS;
 use memory::tell_memory;
@@ -62,7 +62,7 @@ fn main(rt: HostRuntime) -> ExitCode {
     let mut option = LogOption::Nothing;
     let served = run(&rt, &mut option);
     if let Err(failure) = &served {
-        failure.tell(&Logged::new(&rt, PROGRAM, option), PROGRAM);
+        failure.tell(&LoggingRuntime::new(&rt, PROGRAM, option), PROGRAM);
     }
     ExitCode::from(exit_status(&served))
 }
@@ -87,7 +87,7 @@ where
         options.admin.listen.unwrap_or(""),
         is_read,
     ))?;
-    let logged = Logged::new(rt, PROGRAM, options.log);
+    let logged = LoggingRuntime::new(rt, PROGRAM, options.log);
     let served = listen_and_serve(&logged, alloc, &options, operators, is_read);
     served.map_err(|error| Failure::at(rt, error, options.listen, is_read))
 }
