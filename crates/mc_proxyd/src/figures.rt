@@ -1,6 +1,6 @@
 //! What a proxy reports of itself to operators.
 
-use crate::pools::Pool;
+use crate::pools::Upstreams;
 use crate::settings::ProxySettings;
 use mc_admin::{
     ClientFigures, Setting, Sheet, Value, push_client_figures, push_link_figures, push_missed,
@@ -27,7 +27,7 @@ pub fn show(
     operators: &mut Operators,
     listed: &Option<Listed>,
     done: &Done,
-    pool: &Pool,
+    pool: &Upstreams,
     proxy: &Proxy,
     settings: &ProxySettings,
 ) {
@@ -43,7 +43,7 @@ fn try_show(
     operators: &mut Operators,
     listed: &Option<Listed>,
     done: &Done,
-    pool: &Pool,
+    pool: &Upstreams,
     proxy: &Proxy,
     settings: &ProxySettings,
 ) -> Result<(), AllocError> {

@@ -8,7 +8,7 @@ use crate::limits::MAX_PASSES;
 use crate::listings::Listing;
 use crate::lookups::Lookups;
 use crate::options::PROGRAM;
-use crate::pools::Pool;
+use crate::pools::Upstreams;
 use crate::rooms::other_files;
 use crate::settings::ProxySettings;
 use crate::woken::Woken;
@@ -38,7 +38,7 @@ pub struct Host<'a> {
     operators: Operators,
     handler: ProxyHandler,
     clients: Clients<Held>,
-    pool: Pool,
+    pool: Upstreams,
     joining: Joining<'a>,
     /// The file that lists the servers, if there is one.
     listing: Option<Listing<'a>>,
@@ -73,7 +73,7 @@ impl<'a> Host<'a> {
         lookups: Option<Lookups>,
         random: u64,
     ) -> Result<Self, ServeError> {
-        let pool = Pool::new(alloc, &ring, settings, lookups, random)?;
+        let pool = Upstreams::new(alloc, &ring, settings, lookups, random)?;
         let others = other_files(
             ring.servers().len(),
             settings.join.is_some(),

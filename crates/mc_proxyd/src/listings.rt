@@ -5,7 +5,7 @@ use crate::limits::MAX_CHANGES;
 use crate::lists::{Mistake, servers_in, text_of};
 use crate::looks::Looks;
 use crate::notices::{Notice, tell, tell_address, tell_other};
-use crate::pools::Pool;
+use crate::pools::Upstreams;
 use crate::servers::Server;
 use mc_proxy::Proxy;
 use mc_ring::{Address, Ring};
@@ -65,7 +65,7 @@ impl<'a> Listing<'a> {
     pub fn look<R: Files + Eprint>(
         &mut self,
         rt: &R,
-        pool: &mut Pool,
+        pool: &mut Upstreams,
         proxy: &mut Proxy,
         now: u64,
     ) -> bool {
@@ -89,7 +89,13 @@ impl<'a> Listing<'a> {
     }
 
     /// Makes the pool follow what the last look has found. The result is whether a link was lost.
-    fn take<R: Eprint>(&mut self, rt: &R, pool: &mut Pool, proxy: &mut Proxy, now: u64) -> bool {
+    fn take<R: Eprint>(
+        &mut self,
+        rt: &R,
+        pool: &mut Upstreams,
+        proxy: &mut Proxy,
+        now: u64,
+    ) -> bool {
         let list = match &self.found {
             Some(Ok(text)) => servers_in(self.alloc, text.as_str()),
             Some(Err(mistake)) => Err(*mistake),
@@ -124,7 +130,7 @@ impl<'a> Listing<'a> {
     fn follow<R: Eprint>(
         &mut self,
         rt: &R,
-        pool: &mut Pool,
+        pool: &mut Upstreams,
         proxy: &mut Proxy,
         list: &[Server],
         now: u64,
@@ -167,7 +173,7 @@ impl<'a> Listing<'a> {
     fn relocate<R: Eprint>(
         &mut self,
         rt: &R,
-        pool: &mut Pool,
+        pool: &mut Upstreams,
         proxy: &mut Proxy,
         list: &[Server],
         place: usize,
@@ -192,7 +198,7 @@ impl<'a> Listing<'a> {
     fn join<R: Eprint>(
         &mut self,
         rt: &R,
-        pool: &mut Pool,
+        pool: &mut Upstreams,
         proxy: &mut Proxy,
         list: &[Server],
         place: usize,

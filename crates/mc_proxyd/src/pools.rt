@@ -19,7 +19,7 @@ use std::net::Net;
 
 /// The upstream servers of a ring, by their places.
 #[derive(Drop)]
-pub struct Pool {
+pub struct Upstreams {
     alloc: Global,
     upstreams: Vec<Upstream>,
     /// The look-ups of hosts; none if no server may have a host's name.
@@ -30,7 +30,7 @@ pub struct Pool {
     random: u64,
 }
 
-impl Pool {
+impl Upstreams {
     /// Makes a pool of upstreams, none of them tried, with the look-ups of their hosts, and a random number to begin with.
     pub fn new(
         alloc: Global,
@@ -38,13 +38,13 @@ impl Pool {
         settings: &ProxySettings,
         lookups: Option<Lookups>,
         random: u64,
-    ) -> Result<Pool, AllocError> {
+    ) -> Result<Upstreams, AllocError> {
         let mut upstreams = Vec::with_capacity(alloc, ring.servers().len())?;
         for (place, name) in ring.servers().iter().enumerate() {
             let address = settings.addresses.get(place).unwrap_or(name);
             upstreams.push(upstream_to(alloc, name, address)?)?;
         }
-        Ok(Pool {
+        Ok(Upstreams {
             alloc,
             upstreams,
             lookups,
