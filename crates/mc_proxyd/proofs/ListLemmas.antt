@@ -7,7 +7,7 @@ use Rattle.std.proofs.lemmas.List.Splits.{slice_split_first, slice_split_none}
 use Rattle.std.proofs.lemmas.List.Sums.{fails_before_first}
 use Rattle.std.proofs.lemmas.List.Elements.{filter-append}
 use Rattle.mc_proxyd.specs.Files.{is_line_feed, is_some_word, word_of, words_of}
-use Rattle.mc_proxyd.specs.declared.servers.Server.{Server}
+use Rattle.mc_proxyd.specs.declared.servers.NamedServer.{NamedServer}
 
 -- the word of the first line, if it has one, and then those of the others
 pub words_first : (text : List ℕ) → position_or_len is_line_feed text < length text
@@ -18,7 +18,8 @@ words_first text some =
     ∙ filter-append is_some_word (word_of (before_first is_line_feed text) ∷ []) (map word_of (slice_split is_line_feed (after_first is_line_feed text)))
 
 -- one more server, of a word
-pub adds : {B : Type 0} (f : List ℕ → B) (g : Server → B) (servers : List Server) (server : Server) (word : List ℕ) → nat_lt 0 (length word) ≡ true
+pub adds : {B : Type 0} (f : List ℕ → B) (g : NamedServer → B) (servers : List NamedServer) (server : NamedServer) (word : List ℕ)
+    → nat_lt 0 (length word) ≡ true
     → g server ≡ f word → map g (servers ++ server ∷ []) ≡ map g servers ++ map f (filter is_some_word (word ∷ []))
 adds f g servers server word some same = map-append g servers (server ∷ []) ∙ grind (arith, filter)
 

@@ -2,7 +2,7 @@
 ghost use Rattle.std.specs.Prelude.{◌≡◌, ◌<◌, ◌+◌, ◌^◌, length};
 ghost use Rattle.mc_proxyd.specs.Changes.{change_by, missing_from, moved_from};
 
-use crate::servers::Server;
+use crate::servers::NamedServer;
 
 /// The next step by which the servers become those of a list.
 #[derive(Clone, Copy, Debug, PartialEq, Eq)]
@@ -19,7 +19,7 @@ pub enum Change {
 
 /// Returns the next step by which the servers become those of a list. Each server stays at its place: a list that would remove or
 /// rename one is refused before anything is done.
-pub fn change_by(servers: &[Server], list: &[Server]) -> Change
+pub fn change_by(servers: &[NamedServer], list: &[NamedServer]) -> Change
     ensures { result ≡ change_by servers.now list.now }
 {
     if let Some(place) = missing_from(servers, list, 0) {
@@ -36,7 +36,7 @@ pub fn change_by(servers: &[Server], list: &[Server]) -> Change
 }
 
 /// Returns the first place at which the list lacks the servers' name. Both slices begin at `place`.
-fn missing_from(servers: &[Server], list: &[Server], place: usize) -> Option<usize>
+fn missing_from(servers: &[NamedServer], list: &[NamedServer], place: usize) -> Option<usize>
     requires { place + length servers.now < 2 ^ 64 }
     ensures { result ≡ missing_from servers.now list.now place }
 {
@@ -54,7 +54,7 @@ fn missing_from(servers: &[Server], list: &[Server], place: usize) -> Option<usi
 }
 
 /// Returns the first place at which the list has another address than the servers. Both slices begin at `place`.
-fn moved_from(servers: &[Server], list: &[Server], place: usize) -> Option<usize>
+fn moved_from(servers: &[NamedServer], list: &[NamedServer], place: usize) -> Option<usize>
     requires { place + length servers.now < 2 ^ 64 }
     ensures { result ≡ moved_from servers.now list.now place }
 {

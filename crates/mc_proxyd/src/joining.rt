@@ -1,14 +1,14 @@
 //! The server that joins while a proxy runs.
 
 use crate::notices::{Notice, Notices, tell};
-use crate::servers::Server;
+use crate::servers::NamedServer;
 use mc_proxy::ProxyError;
 
 /// The server that joins with a client, and the notices about it.
 #[derive(Drop)]
 pub struct Joining<'a> {
     /// The server, and the number of the client with which it joins.
-    join: &'a Option<(Server, u64)>,
+    join: &'a Option<(NamedServer, u64)>,
     /// Whether it has joined.
     joined: bool,
     notices: Notices,
@@ -16,7 +16,7 @@ pub struct Joining<'a> {
 
 impl<'a> Joining<'a> {
     /// Makes the state of a server that has not joined.
-    pub fn new(join: &'a Option<(Server, u64)>) -> Self {
+    pub fn new(join: &'a Option<(NamedServer, u64)>) -> Self {
         Joining {
             join,
             joined: false,
@@ -25,7 +25,7 @@ impl<'a> Joining<'a> {
     }
 
     /// Returns the server if it must join now that `accepted` clients were accepted.
-    pub fn server(&self, accepted: u64) -> Option<&'a Server> {
+    pub fn server(&self, accepted: u64) -> Option<&'a NamedServer> {
         match self.join {
             Some((server, with)) if !self.joined && accepted >= *with => Some(server),
             _ => None,

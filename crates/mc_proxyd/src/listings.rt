@@ -6,7 +6,7 @@ use crate::lists::{Mistake, servers_in, text_of};
 use crate::looks::Looks;
 use crate::notices::{Notice, tell, tell_address, tell_other};
 use crate::pools::Upstreams;
-use crate::servers::Server;
+use crate::servers::NamedServer;
 use mc_proxy::Proxy;
 use mc_ring::{Address, Ring};
 use std::alloc::{AllocError, Global};
@@ -20,7 +20,7 @@ pub struct Listing<'a> {
     /// Where the file is.
     path: &'a str,
     /// The present servers, by their places.
-    servers: Vec<Server>,
+    servers: Vec<NamedServer>,
     /// What the last look has found, if there was one.
     found: Option<Result<String, Mistake>>,
     looks: Looks,
@@ -39,7 +39,7 @@ impl<'a> Listing<'a> {
         let mut servers = Vec::with_capacity(alloc, ring.servers().len())?;
         for (place, name) in ring.servers().iter().enumerate() {
             let address = addresses.get(place).unwrap_or(name);
-            servers.push(Server {
+            servers.push(NamedServer {
                 name: name.clone()?,
                 address: address.clone()?,
             })?;
@@ -132,7 +132,7 @@ impl<'a> Listing<'a> {
         rt: &R,
         pool: &mut Upstreams,
         proxy: &mut Proxy,
-        list: &[Server],
+        list: &[NamedServer],
         now: u64,
     ) -> bool {
         let mut lost = false;
@@ -161,7 +161,7 @@ impl<'a> Listing<'a> {
     }
 
     /// Reports that the list is not taken, since it lacks the server at a place there.
-    fn keep<R: Eprint>(&mut self, rt: &R, list: &[Server], place: usize) {
+    fn keep<R: Eprint>(&mut self, rt: &R, list: &[NamedServer], place: usize) {
         self.refused = true;
         if let Some(name) = name_at(self.servers.as_slice(), place) {
             let number = place.saturating_add(1);
@@ -175,7 +175,7 @@ impl<'a> Listing<'a> {
         rt: &R,
         pool: &mut Upstreams,
         proxy: &mut Proxy,
-        list: &[Server],
+        list: &[NamedServer],
         place: usize,
         now: u64,
     ) -> Result<bool, Mistake> {
@@ -200,7 +200,7 @@ impl<'a> Listing<'a> {
         rt: &R,
         pool: &mut Upstreams,
         proxy: &mut Proxy,
-        list: &[Server],
+        list: &[NamedServer],
         place: usize,
     ) -> Result<bool, Mistake> {
         let Some(line) = list.get(place) else {
@@ -219,7 +219,7 @@ impl<'a> Listing<'a> {
 }
 
 /// Returns the name of the server at a place, if there is one.
-fn name_at(servers: &[Server], place: usize) -> Option<&str> {
+fn name_at(servers: &[NamedServer], place: usize) -> Option<&str> {
     let server = servers.get(place)?;
     str::from_utf8(server.name.as_bytes()).ok()
 }

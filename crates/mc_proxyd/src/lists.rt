@@ -11,7 +11,7 @@ ghost use Rattle.mc_proxyd.specs.declared.lists.Mistake.TheVariants.{Unread, Mem
 
 use crate::limits::LIST_LIMIT;
 use crate::options::ListError;
-use crate::servers::Server;
+use crate::servers::NamedServer;
 use mc_program::SocketError;
 use mc_ring::{Address, SERVER_LIMIT};
 use std::alloc::{AllocError, AllocFailed, Global};
@@ -113,7 +113,7 @@ pub fn text_of<R: Files>(rt: &R, alloc: Global, path: &str) -> Result<String, Mi
 }
 
 /// Returns the servers that the lines of a text name, in their order. The error is the first mistake in it, or `Memory`.
-pub fn servers_in(alloc: Global, text: &str) -> Result<Vec<Server>, Mistake>
+pub fn servers_in(alloc: Global, text: &str) -> Result<Vec<NamedServer>, Mistake>
     ensures names { IfOk result (λ servers. map (λ server. server.name) servers.items ≡ map name_of (words_of text.now)) }
     ensures addresses { IfOk result (λ servers. map (λ server. server.address) servers.items ≡ map address_of (words_of text.now)) }
     ensures some { IfOk result (λ servers. 1 ≤ vec_len servers) }
@@ -139,7 +139,12 @@ pub fn servers_in(alloc: Global, text: &str) -> Result<Vec<Server>, Mistake>
 }
 
 /// Adds the server of the word of a line of this number, if it has one. The error is the mistake of that line, or `Memory`.
-fn add(alloc: Global, servers: &mut Vec<Server>, word: &str, number: u64) -> Result<(), Mistake>
+fn add(
+    alloc: Global,
+    servers: &mut Vec<NamedServer>,
+    word: &str,
+    number: u64,
+) -> Result<(), Mistake>
     requires { vec_len servers.old ≤ SERVER_LIMIT }
     ensures names { OnOk result (map (λ server. server.name) servers.new.items
         ≡ names_after (map (λ server. server.name) servers.old.items) word.now) }
@@ -162,10 +167,10 @@ fn add(alloc: Global, servers: &mut Vec<Server>, word: &str, number: u64) -> Res
 /// `Memory`.
 pub fn next_server(
     alloc: Global,
-    servers: &[Server],
+    servers: &[NamedServer],
     word: &str,
     number: u64,
-) -> Result<Server, Mistake>
+) -> Result<NamedServer, Mistake>
     ensures name { IfOk result (λ server. server.name ≡ name_of word.now) }
     ensures address { IfOk result (λ server. server.address ≡ address_of word.now) }
     ensures few { OnOk result (length servers.now < SERVER_LIMIT) }
@@ -181,7 +186,7 @@ pub fn next_server(
 }
 
 /// Returns the mistake of a server of this name in the line of this number, after those of earlier lines.
-fn name_mistake(servers: &[Server], name: &Address, number: u64) -> Option<Mistake>
+fn name_mistake(servers: &[NamedServer], name: &Address, number: u64) -> Option<Mistake>
     ensures mistake { result ≡ name_mistake number (map (λ server. server.name) servers.now) name.now }
     ensures few { IfNone result (length servers.now < SERVER_LIMIT) }
 {
@@ -195,7 +200,7 @@ fn name_mistake(servers: &[Server], name: &Address, number: u64) -> Option<Mista
 }
 
 /// Returns whether one of the servers has this name.
-fn has_name(servers: &[Server], name: &Address) -> bool
+fn has_name(servers: &[NamedServer], name: &Address) -> bool
     ensures { result ≡ list_any (λ other. bytes_eq other name.now) (map (λ server. server.name) servers.now) }
 {
     let [server, servers @ ..] = servers else {
@@ -205,13 +210,13 @@ fn has_name(servers: &[Server], name: &Address) -> bool
 }
 
 /// Returns the server of the word of a line of this number.
-fn server_at(alloc: Global, word: &str, number: u64) -> Result<Server, Mistake>
+fn server_at(alloc: Global, word: &str, number: u64) -> Result<NamedServer, Mistake>
     ensures name { IfOk result (λ server. server.name ≡ name_of word.now) }
     ensures address { IfOk result (λ server. server.address ≡ address_of word.now) }
     ensures no_server { is_server word.now ≡ false → IsErrAnd result (λ mistake. mistake ≡ Mistake.NoServer number) }
     ensures memory { is_server word.now ≡ true → IsOkUnless result Mistake.Memory }
 {
-    match Server::new(alloc, word) {
+    match NamedServer::new(alloc, word) {
         Ok(server) => Ok(server),
         Err(ListError::Memory) => Err(Mistake::Memory),
         Err(_) => Err(Mistake::NoServer(number)),

@@ -14,7 +14,7 @@
 //! are, which one joins and which file lists them. A server that is appended to that file joins, and a new address behind a name replaces the old one.
 //! The number of clients is limited so that each server has a descriptor ([`other_files`]). The pumps are [`mc_proxy_pump::pump_client`] and
 //! [`mc_proxy_pump::pump_link`], which have the law of a client's stream and of a server's. [`command`] and [`Options`] are the command line of
-//! [`PROGRAM`], and a [`Server`] is what a word of it names. [`tell_mistake`] reports which word, or which line of the file, names none.
+//! [`PROGRAM`], and a [`NamedServer`] is what a word of it names. [`tell_mistake`] reports which word, or which line of the file, names none.
 //!
 //! The answer to a request whose command is lost is a choice of [`ProxySettings`] too, the same for all clients.
 //!

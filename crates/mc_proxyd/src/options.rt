@@ -8,7 +8,7 @@ ghost use Rattle.mc_proxyd.specs.declared.options.ListError.TheVariants.{Memory}
 
 use crate::lists::{Mistake, next_server, servers_in, text_of};
 use crate::losses::{losses_named, lost};
-use crate::servers::Server;
+use crate::servers::NamedServer;
 use crate::settings::ProxySettings;
 use crate::words::servers_of;
 use clap::builder::ValueParser;
@@ -110,7 +110,7 @@ impl<'a> Options<'a> {
         let join = joining(alloc, servers.as_slice(), matches.get_str("join"), after)?;
         let mut names = Vec::with_capacity(alloc, servers.len())?;
         let mut addresses = Vec::with_capacity(alloc, servers.len())?;
-        for Server { name, address } in servers {
+        for NamedServer { name, address } in servers {
             names.push(name).map_err(|_| ListError::Memory)?;
             addresses.push(address).map_err(|_| ListError::Memory)?;
         }
@@ -135,13 +135,13 @@ impl<'a> Options<'a> {
 }
 
 /// Returns the servers that a file lists. The error is its mistake.
-fn listed<R: Files>(rt: &R, alloc: Global, path: &str) -> Result<Vec<Server>, ListError> {
+fn listed<R: Files>(rt: &R, alloc: Global, path: &str) -> Result<Vec<NamedServer>, ListError> {
     let servers = text_of(rt, alloc, path).and_then(|text| servers_in(alloc, text.as_str()));
     servers.map_err(|mistake| list_error_at(Place::File, mistake))
 }
 
 /// Returns the servers of words. The error is their mistake.
-fn named(alloc: Global, words: &[&str]) -> Result<Vec<Server>, ListError> {
+fn named(alloc: Global, words: &[&str]) -> Result<Vec<NamedServer>, ListError> {
     servers_of(alloc, words).map_err(|mistake| list_error_at(Place::Words, mistake))
 }
 
@@ -167,10 +167,10 @@ fn owned(alloc: Global, text: Option<&str>) -> Result<Option<String>, AllocError
 /// of the word, or that there is no word.
 fn joining(
     alloc: Global,
-    servers: &[Server],
+    servers: &[NamedServer],
     join: Option<&str>,
     after: u64,
-) -> Result<Option<(Server, u64)>, ListError>
+) -> Result<Option<(NamedServer, u64)>, ListError>
     ensures nobody { after ≡ 0 → result ≡ Ok None }
     ensures after { IfOk result (λ joins. option_map (λ joins. joins.1) joins ≡ (if after == 0 then None else Some after)) }
     ensures name { IfOk result (λ joins. option_map (λ joins. joins.0.name) joins
@@ -191,7 +191,11 @@ fn joining(
 }
 
 /// Returns the server of the word of `--join`, which joins the present servers, if there is a word.
-fn joiner(alloc: Global, servers: &[Server], join: Option<&str>) -> Result<Server, Mistake>
+fn joiner(
+    alloc: Global,
+    servers: &[NamedServer],
+    join: Option<&str>,
+) -> Result<NamedServer, Mistake>
     ensures name { IfOk result (λ server. option_map (λ word. name_of word.now) join.entry ≡ Some server.name) }
     ensures address { IfOk result (λ server. option_map (λ word. address_of word.now) join.entry ≡ Some server.address) }
     ensures right { OnOk result (join_mistake (map (λ server. server.name) servers.now) join.entry ≡ None) }

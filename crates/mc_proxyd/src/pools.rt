@@ -3,7 +3,7 @@ ghost use Rattle.std.specs.Prelude.{◌<◌, length};
 
 use crate::lookups::Lookups;
 use crate::notices::Cause;
-use crate::servers::Server;
+use crate::servers::NamedServer;
 use crate::settings::ProxySettings;
 use crate::upstreams::Upstream;
 use crate::woken::Woken;
@@ -125,7 +125,7 @@ impl Upstreams {
     pub fn join(
         &mut self,
         proxy: &mut Proxy,
-        server: &Server,
+        server: &NamedServer,
         awaited: bool,
     ) -> Result<(), ProxyError> {
         let mut upstream = upstream_to(self.alloc, &server.name, &server.address)?;

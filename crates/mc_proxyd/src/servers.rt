@@ -9,17 +9,17 @@ use std::alloc::Global;
 
 /// A server of a pool. Its name stays if its machine is replaced by another at another address: then no key moves.
 #[derive(Clone, Debug, Drop)]
-pub struct Server {
+pub struct NamedServer {
     /// The text by which keys are spread, and by which the program's lines name the server.
     pub name: Address,
     /// Where it is.
     pub address: Address,
 }
 
-impl Server {
+impl NamedServer {
     /// Makes the server of a word: `<name>:<port>=<host>:<port>`, or `<host>:<port>`, which is its name and its address. The
     /// error is `Bad` if either is no address, and else `Memory`.
-    pub fn new(alloc: Global, word: &str) -> Result<Server, ListError>
+    pub fn new(alloc: Global, word: &str) -> Result<NamedServer, ListError>
         ensures name { IfOk result (λ server. server.name ≡ name_of word.now) }
         ensures address { IfOk result (λ server. server.address ≡ address_of word.now) }
         ensures bad { is_server word.now ≡ false → IsErrOf result ListError.Bad }
@@ -29,7 +29,7 @@ impl Server {
         if !is_address(name.as_bytes()) || !is_address(address.as_bytes()) {
             return Err(ListError::Bad);
         }
-        Ok(Server {
+        Ok(NamedServer {
             name: Address::new(alloc, name.as_bytes())?,
             address: Address::new(alloc, address.as_bytes())?,
         })

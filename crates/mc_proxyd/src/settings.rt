@@ -2,7 +2,7 @@
 ghost use Rattle.std.specs.Prelude.{IfSome, IsSomeAnd, MatchBool};
 ghost use Rattle.mc_proxyd.specs.Names.{AreSpelled, HasName, HaveName, IsSpelled, MayLookUp, NeedsNoLookUp};
 
-use crate::servers::Server;
+use crate::servers::NamedServer;
 use mc_program::Terms;
 use mc_proxy::Losses;
 use mc_ring::Address;
@@ -25,7 +25,7 @@ pub struct ProxySettings {
     /// The file that lists the servers while the proxy runs, if there is one.
     pub list: Option<String>,
     /// Which server joins, and with which client: 1 is the first. If it cannot, it is tried with each later client.
-    pub join: Option<(Server, u64)>,
+    pub join: Option<(NamedServer, u64)>,
 }
 
 impl ProxySettings {
@@ -46,7 +46,7 @@ impl ProxySettings {
 }
 
 /// Returns whether the server that joins, if one does, has a host's name.
-fn joins_by_name(join: &Option<(Server, u64)>) -> bool
+fn joins_by_name(join: &Option<(NamedServer, u64)>) -> bool
     ensures { MatchBool result (IsSomeAnd join.now (λ joins. HasName joins.0.address)) (IfSome join.now (λ joins. IsSpelled joins.0.address)) }
 {
     match join {

@@ -4,13 +4,13 @@ ghost use Rattle.mc_proxyd.specs.Mistakes.{mistake_among, mistake_of_words};
 ghost use Rattle.mc_proxyd.specs.Servers.{address_of, name_of};
 
 use crate::lists::{Mistake, next_server};
-use crate::servers::Server;
+use crate::servers::NamedServer;
 use mc_ring::SERVER_LIMIT;
 use std::alloc::Global;
 
 /// Returns the servers of words, in their order. The error is the first mistake in them, or `Memory`. The first word has the
 /// number 1.
-pub fn servers_of(alloc: Global, words: &[&str]) -> Result<Vec<Server>, Mistake>
+pub fn servers_of(alloc: Global, words: &[&str]) -> Result<Vec<NamedServer>, Mistake>
     ensures names { IfOk result (λ servers. map (λ server. server.name) servers.items ≡ map (λ word. name_of word.now) words.now) }
     ensures addresses { IfOk result (λ servers. map (λ server. server.address) servers.items ≡ map (λ word. address_of word.now) words.now) }
     ensures few { IfOk result (λ servers. vec_len servers ≤ SERVER_LIMIT) }
@@ -29,7 +29,7 @@ pub fn servers_of(alloc: Global, words: &[&str]) -> Result<Vec<Server>, Mistake>
 /// Adds the servers of words, the first of which has this number. The error is the first mistake in them, or `Memory`.
 fn add_words(
     alloc: Global,
-    servers: &mut Vec<Server>,
+    servers: &mut Vec<NamedServer>,
     words: &[&str],
     number: u64,
 ) -> Result<(), Mistake>
