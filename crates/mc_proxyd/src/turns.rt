@@ -20,7 +20,7 @@ pub enum Stage {
 
 /// What is done for it.
 #[derive(Clone, Copy, Debug, PartialEq, Eq)]
-pub enum Turn {
+pub enum ConnectTurn {
     /// Nothing.
     Rest,
     /// A try is begun.
@@ -33,23 +33,23 @@ pub enum Turn {
 
 /// Returns what is done at the moment `now`. The last try was begun at `begun`, and the next may begin at `next`: all in
 /// milliseconds.
-pub fn turn_by(stage: Stage, begun: u64, next: u64, now: u64) -> Turn
+pub fn turn_by(stage: Stage, begun: u64, next: u64, now: u64) -> ConnectTurn
     ensures { result ≡ turn_by stage begun next now }
 {
     match stage {
-        Stage::Down if now >= next => Turn::Begin,
-        Stage::Down | Stage::Up => Turn::Rest,
-        Stage::Asking => until_late(begun, now, Cause::LookUp, Turn::GoOn),
-        Stage::Connecting => until_late(begun, now, Cause::TimedOut, Turn::Rest),
+        Stage::Down if now >= next => ConnectTurn::Begin,
+        Stage::Down | Stage::Up => ConnectTurn::Rest,
+        Stage::Asking => until_late(begun, now, Cause::LookUp, ConnectTurn::GoOn),
+        Stage::Connecting => until_late(begun, now, Cause::TimedOut, ConnectTurn::Rest),
     }
 }
 
 /// Returns that a try is given up for a cause if it has taken too long, and else another turn.
-fn until_late(begun: u64, now: u64, cause: Cause, turn: Turn) -> Turn
+fn until_late(begun: u64, now: u64, cause: Cause, turn: ConnectTurn) -> ConnectTurn
     ensures { result ≡ until_late begun now cause turn }
 {
     if now >= begun.saturating_add(CONNECT_MILLIS) {
-        Turn::GiveUp(cause)
+        ConnectTurn::GiveUp(cause)
     } else {
         turn
     }

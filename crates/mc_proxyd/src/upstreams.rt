@@ -6,7 +6,7 @@ use crate::limits::{CONNECT_MILLIS, LINK_KEEPALIVE, NEXT_DELAY, NOTICE_DELAY};
 use crate::lookups::{Lookup, Lookups, Next, next_by};
 use crate::notices::{Cause, Notice, Notices, tell};
 use crate::options::PROGRAM;
-use crate::turns::{Stage, Turn, turn_by};
+use crate::turns::{ConnectTurn, Stage, turn_by};
 use crate::waits::Waits;
 use mc_admin::LinkFigures;
 use mc_net::{Edge, Input, keep_alive_by, reset, spelled_address};
@@ -138,14 +138,14 @@ impl Upstream {
         random: u64,
     ) {
         match turn_by(self.stage(), self.begun, self.next, now) {
-            Turn::Rest => {}
-            Turn::Begin => {
+            ConnectTurn::Rest => {}
+            ConnectTurn::Begin => {
                 self.begun = now;
                 self.delay(now, random);
                 self.go_on(rt, registry, lookups, token);
             }
-            Turn::GoOn => self.go_on(rt, registry, lookups, token),
-            Turn::GiveUp(cause) => {
+            ConnectTurn::GoOn => self.go_on(rt, registry, lookups, token),
+            ConnectTurn::GiveUp(cause) => {
                 if let Some(lookup) = &mut self.lookup {
                     lookup.outlast();
                 }
