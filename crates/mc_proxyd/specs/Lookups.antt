@@ -3,8 +3,8 @@ use Rattle.std.specs.Prelude.{Option, Some, None, Result, Ok, Err}
 use Rattle.std.specs.declared.net.socket_addr.SocketAddr.{SocketAddr}
 use Rattle.mc_proxyd.specs.declared.lookups.Known.{Known}
 use Rattle.mc_proxyd.specs.declared.lookups.Known.TheVariants.{Nothing, Answer, Other}
-use Rattle.mc_proxyd.specs.declared.lookups.Next.{Next}
-use Rattle.mc_proxyd.specs.declared.lookups.Next.TheVariants.{Ask, Wait, Connect, Fail}
+use Rattle.mc_proxyd.specs.declared.lookups.NextLookup.{NextLookup}
+use Rattle.mc_proxyd.specs.declared.lookups.NextLookup.TheVariants.{Ask, Wait, Connect, Fail}
 use Rattle.mc_proxyd.specs.declared.lookups.Standing.{Standing}
 use Rattle.mc_proxyd.specs.declared.lookups.Standing.TheVariants.{Wanted, Late, Unwanted}
 use Rattle.mc_proxyd.specs.declared.notices.Cause.{Cause}
@@ -12,7 +12,7 @@ use Rattle.mc_proxyd.specs.declared.notices.Cause.TheVariants.{UnknownHost, Look
 
 -- No second look-up is begun while one is pending. The result decides, even if an earlier try began the look-up, but not if it was begun
 -- for another address.
-abbrev pub next_by : Option Known → Next
+abbrev pub next_by : Option Known → NextLookup
 next_by None = Ask
 next_by (Some Nothing) = Wait
 next_by (Some Other) = Ask

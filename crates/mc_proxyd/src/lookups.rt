@@ -26,7 +26,7 @@ pub enum Known {
 
 /// The next step of a try that needs the address of a host.
 #[derive(Clone, Copy, Debug, PartialEq, Eq)]
-pub enum Next {
+pub enum NextLookup {
     /// It has the host looked up.
     Ask,
     /// It waits for the pending look-up.
@@ -38,14 +38,14 @@ pub enum Next {
 }
 
 /// Returns the next step of a try that needs the address of a host, given what is known of that host's look-up, if one was begun.
-pub fn next_by(lookup: Option<Known>) -> Next
+pub fn next_by(lookup: Option<Known>) -> NextLookup
     ensures { result ≡ next_by lookup }
 {
     match lookup {
-        None | Some(Known::Other) => Next::Ask,
-        Some(Known::Nothing) => Next::Wait,
-        Some(Known::Answer(Ok(address))) => Next::Connect(address),
-        Some(Known::Answer(Err(cause))) => Next::Fail(cause),
+        None | Some(Known::Other) => NextLookup::Ask,
+        Some(Known::Nothing) => NextLookup::Wait,
+        Some(Known::Answer(Ok(address))) => NextLookup::Connect(address),
+        Some(Known::Answer(Err(cause))) => NextLookup::Fail(cause),
     }
 }
 

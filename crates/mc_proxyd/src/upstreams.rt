@@ -3,7 +3,7 @@ ghost use Rattle.std.specs.Prelude.{◌<◌, length};
 
 use crate::delays::delay_after;
 use crate::limits::{CONNECT_MILLIS, LINK_KEEPALIVE, NEXT_DELAY, NOTICE_DELAY};
-use crate::lookups::{Lookup, Lookups, Next, next_by};
+use crate::lookups::{Lookup, Lookups, NextLookup, next_by};
 use crate::notices::{Cause, Notice, Notices, tell};
 use crate::options::PROGRAM;
 use crate::turns::{ConnectTurn, Stage, turn_by};
@@ -183,17 +183,17 @@ impl Upstream {
         let lookup = self.lookup.as_ref();
         let known = lookup.map(|lookup| lookup.known(lookup.found()));
         match next_by(known) {
-            Next::Ask => {
+            NextLookup::Ask => {
                 let lookups = lookups.as_mut().ok_or(Cause::UnknownHost)?;
                 self.lookup = Some(lookups.begin(registry, self.address.as_str())?);
                 self.state = State::Asking;
             }
-            Next::Wait => self.state = State::Asking,
-            Next::Connect(address) => {
+            NextLookup::Wait => self.state = State::Asking,
+            NextLookup::Connect(address) => {
                 self.lookup = None;
                 self.connect(rt, registry, token, address)?;
             }
-            Next::Fail(cause) => {
+            NextLookup::Fail(cause) => {
                 self.lookup = None;
                 return Err(cause);
             }
