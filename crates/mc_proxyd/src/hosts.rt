@@ -30,7 +30,7 @@ use std::time::Duration;
 
 /// A proxy, its clients, and its upstream servers. A client's token is its key; an upstream's token is its server's place after all keys.
 #[derive(Drop)]
-pub struct Host<'a> {
+pub struct ProxyLoop<'a> {
     alloc: Global,
     /// Where the listener is: `<host>:<port>`.
     listen: &'a str,
@@ -61,7 +61,7 @@ pub struct Host<'a> {
     ghost within: { second < 2 ^ 63 },
 }
 
-impl<'a> Host<'a> {
+impl<'a> ProxyLoop<'a> {
     /// Makes a host without a client, for a listener at a place and upstreams that were not tried, and with the look-ups of their hosts. A
     /// random number decides when upstreams that failed are tried again.
     pub fn new(
@@ -88,7 +88,7 @@ impl<'a> Host<'a> {
             }
             None => None,
         };
-        Ok(Host {
+        Ok(ProxyLoop {
             alloc,
             listen,
             settings,
@@ -318,7 +318,7 @@ impl<'a> Host<'a> {
     }
 }
 
-impl<'a, R: Net + Clock + Files + Print + EprintSeldom> Rounds<R, Stopwatch> for Host<'a> {
+impl<'a, R: Net + Clock + Files + Print + EprintSeldom> Rounds<R, Stopwatch> for ProxyLoop<'a> {
     fn ready(&mut self, rt: &R) {
         // Best effort: a failed write to standard output must not stop serving.
         let _ = println!(rt; "listening {}", self.listen);

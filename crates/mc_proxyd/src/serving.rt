@@ -1,6 +1,6 @@
 //! Serving a listener.
 
-use crate::hosts::Host;
+use crate::hosts::ProxyLoop;
 use crate::lookups::Lookups;
 use crate::resolving::begin_lookups;
 use crate::settings::ProxySettings;
@@ -69,7 +69,7 @@ fn serve_with<R: Net + Clock + Files + RandomSource + Wait + Print + EprintSeldo
     lookups: Option<Lookups>,
 ) -> Result<(), ServeError> {
     let random = random_number(rt);
-    let mut host = Host::new(alloc, listen, ring, settings, operators, lookups, random)?;
+    let mut host = ProxyLoop::new(alloc, listen, ring, settings, operators, lookups, random)?;
     let accept = settings.terms.accept;
     let mut clock = Stopwatch::new(rt);
     serve_rounds(rt, alloc, listener, accept, &mut clock, &mut host)
