@@ -22,7 +22,7 @@ use std::time::Duration;
 
 /// A server, its clients and its periodic tasks: once in a second or less often it sweeps idle clients, and reports what it has done.
 #[derive(Drop)]
-pub struct Host<'a, S: Store + Drop> {
+pub struct ServerLoop<'a, S: Store + Drop> {
     alloc: Global,
     /// The address on which it listens, as it reports it.
     listen: &'a str,
@@ -69,7 +69,7 @@ fn room_beside(operators: u64) -> Option<Room> {
     (operators > 0 && !room.is_full(0)).then_some(room)
 }
 
-impl<'a, S: Store + Drop> Host<'a, S> {
+impl<'a, S: Store + Drop> ServerLoop<'a, S> {
     /// Makes a host without a client, over a server whose store counts its operations, from a moment on. It listens at this host and port.
     pub fn new(
         alloc: Global,
@@ -84,7 +84,7 @@ impl<'a, S: Store + Drop> Host<'a, S> {
     {
         let service = settings.service;
         let room = room_beside(operators.files());
-        Ok(Host {
+        Ok(ServerLoop {
             alloc,
             listen,
             handler: ServerHandler::new(
@@ -206,7 +206,8 @@ impl<'a, S: Store + Drop> Host<'a, S> {
     }
 }
 
-impl<R: Print + EprintSeldom + Files, C: Seconds, S: Store + Drop> Rounds<R, C> for Host<'_, S> {
+impl<R: Print + EprintSeldom + Files, C: Seconds, S: Store + Drop> Rounds<R, C>
+    for ServerLoop<'_, S> {
     fn ready(&mut self, rt: &R) {
         // Best effort: a failed write to standard output must not stop serving.
         let _ = println!(rt; "listening {}", self.listen);

@@ -9,7 +9,7 @@ use crate::chosen::ChosenStore;
 use crate::clocks::Seconds;
 use crate::counted::Counted;
 use crate::counts::Counts;
-use crate::hosts::Host;
+use crate::hosts::ServerLoop;
 use crate::kinds::StoreKind;
 use crate::settings::Settings;
 use mc_cache::Cache;
@@ -53,7 +53,7 @@ pub fn serve<R: Net + RandomSource + Wait + Files + Print + EprintSeldom, C: Sec
     let start = clock.now();
     let server = new_server(rt, alloc, settings, counts.clone()?, start)?;
     let service = settings.service;
-    let mut host = Host::new(alloc, listen, server, counts, settings, operators, start)?;
+    let mut host = ServerLoop::new(alloc, listen, server, counts, settings, operators, start)?;
     serve_rounds(rt, alloc, listener, service.terms.accept, clock, &mut host)
 }
 
