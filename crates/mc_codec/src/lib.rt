@@ -47,6 +47,7 @@ macro_rules! or {
 }
 
 mod classic;
+mod examples;
 mod laws;
 mod lent_stores;
 mod limits;
@@ -55,22 +56,21 @@ mod meta;
 mod next_replies;
 mod reader;
 mod replies;
-mod rows;
 mod spelled_lines;
 mod spelled_metas;
 mod spelled_words;
 mod spelling_laws;
 mod spellings;
 
+pub use examples::{
+    another_key, bare_line_feed, block_is_waited_for, block_too_long, error_to_a_get, leading_zero,
+    number_too_large, seconds_not_asked_for, size_too_large,
+};
 pub use laws::{nothing_is_a_beginning, replies_are_apart, spellings_are_not_empty};
 pub use lent_stores::{LentStore, store_len, write_store};
 pub use limits::{FLAGS_LIMIT, NUMBER_LIMIT};
 pub use next_replies::NextReply;
 pub use reader::ReplyReader;
-pub use rows::{
-    another_key, bare_line_feed, block_is_waited_for, block_too_long, error_to_a_get, leading_zero,
-    number_too_large, seconds_not_asked_for, size_too_large,
-};
 pub use spelling_laws::{
     canonical_answers, commands_of_texts_can_be_spelled, heads_tell_of_replies,
     quit_after_commands_is_read, spelled_command_is_one, spelled_commands_are_read,

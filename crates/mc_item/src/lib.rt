@@ -9,12 +9,12 @@
 mod bodies;
 mod counters;
 mod deadlines;
-mod rows;
+mod examples;
 
 pub use bodies::{Body, OVERHEAD, cost, cost_at};
 pub use counters::CasCounter;
 pub use deadlines::{Deadline, NEVER, RELATIVE_LIMIT};
-pub use rows::{
+pub use examples::{
     a_second_more_is_a_moment, below_zero_is_dead_at_once, thirty_days_are_from_the_moment_on,
     zero_is_never,
 };

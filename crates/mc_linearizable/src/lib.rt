@@ -6,10 +6,10 @@
 #![tactic(auto)]
 
 mod clients;
+mod examples;
 mod laws;
 mod losses;
 mod needs;
-mod rows;
 mod worlds;
 
 pub use clients::{
@@ -17,6 +17,7 @@ pub use clients::{
     clients_lose_no_cas, clients_read_own_writes, commands_are_in_their_run, one_client_fills,
     one_client_wins,
 };
+pub use examples::a_restart_and_a_join_are_linearizable;
 pub use laws::{
     every_run_is_linearizable, pipelined_commands_keep_their_order, pools_are_linearizable,
 };
@@ -26,5 +27,4 @@ pub use losses::{
 pub use needs::{
     early_gets_show_older_values, lost_commands_may_come_early, numbers_fit_another_server,
 };
-pub use rows::a_restart_and_a_join_are_linearizable;
 pub use worlds::worlds_are_linearizable;

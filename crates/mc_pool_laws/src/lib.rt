@@ -19,8 +19,8 @@ mod histories;
 mod losses;
 mod needs;
 mod one_map;
+mod one_map_examples;
 mod one_map_needs;
-mod one_map_rows;
 mod one_map_texts;
 mod one_map_worlds;
 mod refusals;
@@ -46,8 +46,8 @@ pub use needs::{
     requests_need_their_clauses, the_order_needs_its_clause,
 };
 pub use one_map::accounts_are_of_one_map;
+pub use one_map_examples::{a_set_and_a_get_are_plain, commands_are_merged_by_turns};
 pub use one_map_needs::restarted_servers_are_not_one_map;
-pub use one_map_rows::{a_set_and_a_get_are_plain, commands_are_merged_by_turns};
 pub use one_map_texts::commands_are_looked_up_in_texts;
 pub use one_map_worlds::worlds_act_as_one_map;
 pub use refusals::{

@@ -7,7 +7,7 @@
 //!
 //! A script is lines of text. The first is `pool <servers> <clients> <budget> <items>`. Lines `point <8 hexadecimal digits> <server>`
 //! straight after it give the ring's points, and one line `losses told` or `losses missed` among these gives the choice for lost
-//! commands. Then each line is one event. The definitions in `specs/` say what each line means; worked examples are in `src/rows.rt`.
+//! commands. Then each line is one event. The definitions in `specs/` say what each line means; worked examples are in `src/examples.rt`.
 //! Lines, escapes and numbers are those of `mc_script`.
 //!
 //! # Played and printed
@@ -24,6 +24,7 @@
 mod addresses;
 mod client_lines;
 mod commands;
+mod examples;
 mod joins;
 mod kinds;
 mod lines;
@@ -32,7 +33,6 @@ mod outputs;
 mod plays;
 mod points;
 mod reading;
-mod rows;
 mod scripts;
 mod server_lines;
 mod texts;
@@ -40,14 +40,14 @@ mod told;
 mod worlds;
 
 pub use commands::Command;
+pub use examples::{
+    lines_of_clients, lines_of_drains, lines_of_joins, lines_of_restarts, lines_of_servers,
+    losses_of_scripts, points_of_servers,
+};
 pub use kinds::is_of_pool;
 pub use lines::PoolLine;
 pub use outputs::push_output_lines;
 pub use plays::{Played, played_script};
-pub use rows::{
-    lines_of_clients, lines_of_drains, lines_of_joins, lines_of_restarts, lines_of_servers,
-    losses_of_scripts, points_of_servers,
-};
 pub use scripts::{PoolScript, read_pool_script};
 pub use texts::{account_of_pool_script, steps_of_pool_script, text_of_pool_script};
 pub use told::push_account;

@@ -38,11 +38,11 @@
 #![tactic(auto)]
 
 mod errors;
+mod examples;
 mod laws;
 mod limits;
 mod linked;
 mod proxies;
-mod rows;
 mod sending;
 mod session_errors;
 mod session_limits;
@@ -53,11 +53,11 @@ mod turns;
 mod unanswered;
 
 pub use errors::ProxyError;
+pub use examples::lost_store_before_a_get;
 pub use laws::steps_that_change_nothing_are_still;
 pub use limits::MAX_SESSIONS;
 pub use mc_route::Losses;
 pub use proxies::Proxy;
-pub use rows::lost_store_before_a_get;
 pub use session_errors::SessionError;
 pub use session_limits::{LINK_MARK, MAX_UNANSWERED, UNSENT_MARK};
 pub use session_turns::{Emit, SessionTurn};

@@ -5,12 +5,17 @@
 //! `specs/Examples.antt` for the short forms of the commands in the examples.
 #![tactic(auto)]
 
+mod examples;
 mod guarantees;
 mod laws;
 mod needs;
-mod rows;
-mod wrong_rows;
+mod wrong_examples;
 
+pub use examples::{
+    counters_are_counted, items_are_forgotten, limits_are_counted, marks_are_won,
+    numbers_are_compared, refused_stores_change_nothing, shown_counts_are_counted,
+    stored_values_are_shown,
+};
 pub use guarantees::{
     adds_exclude, cas_loses_nothing, cas_loses_nothing_across_lives, counters_count,
     counters_count_while_held, old_numbers_do_not_fit, reads_see_own_writes,
@@ -23,12 +28,7 @@ pub use needs::{
     limits_begin_anew, marks_are_won_again, numbers_fit_another_life,
     old_numbers_fit_another_cache, other_values_are_read,
 };
-pub use rows::{
-    counters_are_counted, items_are_forgotten, limits_are_counted, marks_are_won,
-    numbers_are_compared, refused_stores_change_nothing, shown_counts_are_counted,
-    stored_values_are_shown,
-};
-pub use wrong_rows::{
+pub use wrong_examples::{
     dead_items_are_not_shown, deleted_items_are_not_shown, marks_are_not_won_twice,
     numbers_are_not_given_twice, old_values_are_not_shown,
 };

@@ -14,24 +14,24 @@
 
 mod answers;
 mod appends;
+mod examples;
 mod flag_appends;
 mod laws;
 mod meta_appends;
-mod meta_rows;
+mod meta_examples;
 mod replies;
-mod rows;
 
 pub use answers::{
     FLAGS_ROOM, KEY_ROOM, LINE_ROOM, META_ROOM, PART_ROOM, ReplyError, key_of, part_room, shown,
     value_len, write_end, write_fault, write_head, write_key, write_line, write_meta, write_noop,
     write_part, write_version,
 };
-pub use laws::{faults_are_shown, flags_of_requests_fit, one_reply_is_spelled, parts_in_order};
-pub use meta_rows::{
-    flags_as_asked, keys_as_asked, marks_are_last, noop, quiet_answers, what_was_not_done,
-};
-pub use replies::{Marks, Reply, Shown};
-pub use rows::{
+pub use examples::{
     error_line, flush_of_two_servers, gats_of_a_hit, get_of_a_hit, get_of_a_miss, get_of_many_keys,
     noreply_hides_lines, update_lines, version_and_quit,
 };
+pub use laws::{faults_are_shown, flags_of_requests_fit, one_reply_is_spelled, parts_in_order};
+pub use meta_examples::{
+    flags_as_asked, keys_as_asked, marks_are_last, noop, quiet_answers, what_was_not_done,
+};
+pub use replies::{Marks, Reply, Shown};

@@ -17,6 +17,7 @@
 
 mod announced;
 mod command_lines;
+mod examples;
 mod faults;
 mod flags;
 mod heads;
@@ -25,16 +26,19 @@ mod keys;
 mod lines;
 mod lone_lines;
 mod meta;
+mod meta_examples;
 mod meta_lines;
-mod meta_rows;
 mod names;
 mod owned;
 mod parts;
-mod rows;
 mod storage_lines;
 
 pub use announced::announced_in;
 pub use command_lines::{command_line, plain_get};
+pub use examples::{
+    counts, deletions, flushes, noreply_at_the_end, refused_blocks, several_keys, storage_modes,
+    unknown_lines,
+};
 pub use faults::Fault;
 pub use flags::{Flag, OPAQUE_LIMIT, flag_of};
 pub use heads::Head;
@@ -42,13 +46,9 @@ pub use hides::Hides;
 pub use keys::Keys;
 pub use lines::{Asked, CommandLine, Storing};
 pub use meta::{Counting, Creation, FlagWords, MetaCommand, MetaForm, MetaGet, Show, key_bytes};
-pub use meta_rows::{
+pub use meta_examples::{
     coded_keys, faults_in_order, flags_are_once, flags_of_each_command, meta_commands, meta_sets,
     modes, opaques, tokens_of_each_flag,
 };
 pub use owned::keys_of;
 pub use parts::{Atom, Direction, ReadError, Request, StoreMode, Taken, Update};
-pub use rows::{
-    counts, deletions, flushes, noreply_at_the_end, refused_blocks, several_keys, storage_modes,
-    unknown_lines,
-};

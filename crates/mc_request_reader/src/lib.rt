@@ -19,22 +19,22 @@
 
 mod apart;
 mod apart_reader;
+mod examples;
 mod incoming;
 mod laws;
 mod peeks;
 mod reader;
-mod rows;
 mod searched;
 mod steps;
 mod unread;
 
 pub use apart_reader::ApartReader;
+pub use examples::{
+    block_takes_too_much, meta_block_is_swallowed, quit_ends_the_text, refused_block_is_swallowed,
+    set_then_get,
+};
 pub use laws::{
     requests_are_no_more_than_bytes, requests_are_well_formed, requests_begin, requests_go_on,
 };
 pub use peeks::{Front, LentGet, LentLine, Peek, REQUEST_LIMIT, TakenSet};
 pub use reader::{Next, Reader};
-pub use rows::{
-    block_takes_too_much, meta_block_is_swallowed, quit_ends_the_text, refused_block_is_swallowed,
-    set_then_get,
-};

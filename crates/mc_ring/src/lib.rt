@@ -15,18 +15,18 @@
 
 mod addresses;
 mod errors;
+mod examples;
 mod laws;
 mod points;
 mod rings;
-mod rows;
 
 pub use addresses::Address;
 pub use errors::RingError;
+pub use examples::{
+    equal_points, hash_of_a, hash_of_abc, past_the_last_point, the_next_point, the_point_itself,
+};
 pub use laws::{
     every_server_has_its_points, only_members_count, points_are_one, shown_points_own_alike,
 };
 pub use points::{POINTS_OF_SERVER, Point};
 pub use rings::{Ring, SERVER_LIMIT};
-pub use rows::{
-    equal_points, hash_of_a, hash_of_abc, past_the_last_point, the_next_point, the_point_itself,
-};

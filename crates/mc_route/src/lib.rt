@@ -21,6 +21,7 @@
 #![tactic(auto)]
 
 mod errors;
+mod examples;
 mod joins;
 mod kept;
 mod laws;
@@ -29,9 +30,13 @@ mod looks;
 mod losses;
 mod outcomes;
 mod routes;
-mod rows;
 
 pub use errors::RouteError;
+pub use examples::{
+    flush_over_three_servers, get_of_four_keys_with_a_dead_server, get_over_two_servers,
+    items_of_two_servers, meta_get_that_is_lost, one_lost_of_three, quiet_request_that_is_lost,
+    requests_without_commands, update_that_is_lost,
+};
 pub use joins::{hides_loss, join, join_room, join_with};
 pub use kept::without_block;
 pub use laws::{
@@ -44,8 +49,3 @@ pub use looks::goes_to;
 pub use losses::Losses;
 pub use outcomes::Outcome;
 pub use routes::{Routed, atoms};
-pub use rows::{
-    flush_over_three_servers, get_of_four_keys_with_a_dead_server, get_over_two_servers,
-    items_of_two_servers, meta_get_that_is_lost, one_lost_of_three, quiet_request_that_is_lost,
-    requests_without_commands, update_that_is_lost,
-};

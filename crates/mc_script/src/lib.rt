@@ -9,19 +9,19 @@
 //!
 //! A script is lines of text: `server <connections> <budget> <items>`, then `bytes <connection> <text>` and
 //! `turn <connection> <moment>`; connections have the numbers from 0 on. The definitions in `specs/` say what each means; worked examples are in
-//! `src/rows.rt`.
+//! `src/examples.rt`.
 #![tactic(auto)]
 
 mod errors;
 mod escape_tables;
 mod escapes;
 mod events;
+mod examples;
 mod input;
 mod laws;
 mod lines;
 mod numbers;
 mod outputs;
-mod rows;
 mod scripts;
 mod stores;
 mod texts;
@@ -31,11 +31,11 @@ pub use escapes::{
     escaped_is_read_again, hex_value, push_client_line, push_escaped, push_named_line, read_escaped,
 };
 pub use events::{Script, ServerEvent};
+pub use examples::{texts_by_connection, turns_that_find_one};
 pub use input::read_input;
 pub use laws::{one_output, only_output, some_output};
 pub use lines::{LineIter, cut_at_space, lines_of};
 pub use numbers::{read_limit, read_moment, read_place};
-pub use rows::{texts_by_connection, turns_that_find_one};
 pub use scripts::read_script;
 pub use stores::ScriptStore;
 pub use texts::{text_of_script, write_text};

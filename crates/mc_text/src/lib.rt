@@ -42,6 +42,7 @@ mod appends;
 mod blocks;
 mod byte_tests;
 mod coded_keys;
+mod examples;
 mod fields;
 mod fronts;
 mod key_bytes;
@@ -50,7 +51,6 @@ mod laws;
 mod lines;
 mod numbers;
 mod places;
-mod rows;
 mod unready;
 mod word_iter;
 
@@ -58,6 +58,10 @@ pub use addresses::{HOST_LIMIT, is_address, is_host};
 pub use appends::append;
 pub use blocks::{Block, VALUE_LIMIT};
 pub use coded_keys::{CODED_LIMIT, CODED_ROOM, is_coded_key, read_coded, write_coded};
+pub use examples::{
+    coded_keys_by_their_words, keys_by_their_bytes, lines_by_their_ends, numbers_within_limits,
+    words_between_spaces,
+};
 pub use fields::{block, number, number_if, text};
 pub use fronts::{drop_front, give_back, let_go};
 pub use key_bytes::KeyBytes;
@@ -66,9 +70,5 @@ pub use laws::coded_keys_have_one_word;
 pub use lines::{LINE_LIMIT, Line, content_to, next_line, next_line_from};
 pub use numbers::{read_flags, read_i64, read_len, read_u64};
 pub use places::LANES;
-pub use rows::{
-    coded_keys_by_their_words, keys_by_their_bytes, lines_by_their_ends, numbers_within_limits,
-    words_between_spaces,
-};
 pub use unready::Unready;
 pub use word_iter::{WordIter, without_spaces, words};

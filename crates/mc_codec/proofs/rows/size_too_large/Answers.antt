@@ -1,9 +1,0 @@
-use Rattle.std.proofs.Common.{refl, codes}
-use Rattle.mc_text.specs.Forms.{text_at, digits_at, number_at, block_at}
-use Rattle.mc_codec.specs.Examples.{get_of_a}
-use Rattle.mc_codec.proofs.HeadLemmas.{strange_from}
-use Rattle.mc_codec.proofs.rows.size_too_large.Goals as goal
-
-pub returns : goal.returns
-unfolding text_at digits_at number_at block_at
-returns c = strange_from get_of_a 17 (codes "VALUE a 0 1048577") refl refl

@@ -1,5 +1,0 @@
-use Rattle.mc_linearizable.proofs.JoinExample.{restarted_and_joined}
-use Rattle.mc_linearizable.proofs.rows.a_restart_and_a_join_are_linearizable.Goals as goal
-
-pub returns : goal.returns
-returns c = restarted_and_joined

@@ -1,7 +1,0 @@
-use Rattle.std.proofs.Common.{refl}
-use Rattle.std.specs.Fmt.{digits}
-use Rattle.mc_reply.proofs.rows.gats_of_a_hit.Goals as goal
-
-pub returns : goal.returns
-unfolding digits
-returns c = refl
