@@ -16,7 +16,7 @@ use Rattle.mc_link.specs.declared.turns.Tag.{Tag}
 use Rattle.mc_proxy.specs.Emits.{is_told}
 use Rattle.mc_proxy.specs.Sending.{at_once, handed, handed_to, tag_of}
 use Rattle.mc_proxy.specs.SessionState.{link_at, with_link}
-use Rattle.mc_account.specs.Orders.{Entry, Order, Tagged, commands_from, commands_in, commands_to, outcomes_from, outcomes_in, outcomes_to}
+use Rattle.mc_account.specs.Orders.{Order, Tagged, TakenRequest, commands_from, commands_in, commands_to, outcomes_from, outcomes_in, outcomes_to}
 use Rattle.mc_account.specs.Lanes.{CanHave, Lane, LaneHolds, LinkHolds, as_waiting, spelled, told}
 use Rattle.mc_account.proofs.OpenSessions.{own_number}
 use Rattle.mc_account.proofs.OrderLemmas.{commands-push, outcomes-push, passes_joined}
@@ -109,7 +109,7 @@ at_once_down place (command ∷ commands) links down =
     ]) refl
 
 -- a lane after a request is taken
-lane_taken : (place : ℕ) (order : Order) (e : Entry) (lane : Lane) (link : LinkState)
+lane_taken : (place : ℕ) (order : Order) (e : TakenRequest) (lane : Lane) (link : LinkState)
     → outcomes_in place e ≡ map (λ (_ : Waiting). Awaited) (as_waiting (commands_in place e)) → LaneHolds place order lane link
     → LaneHolds place (order ++ e ∷ []) lane (record link { output = link.output ++ spelled (commands_in place e); waiting = link.waiting ++ as_waiting (commands_in place e) })
 lane_taken place order e lane link awaited h =
@@ -144,7 +144,7 @@ lane_taken place order e lane link awaited h =
     }
 
 -- the link at a place, after a request is taken
-pub link_taken : (place session request : ℕ) (order : Order) (e : Entry) (lane : Lane) (links now : List LinkState)
+pub link_taken : (place session request : ℕ) (order : Order) (e : TakenRequest) (lane : Lane) (links now : List LinkState)
     → e.session ≡ session → e.request ≡ request → e.outcomes ≡ map (at_once links) (route_of_taken e.ring e.what)
     → now ≡ handed session request 0 (route_of_taken e.ring e.what) links
     → LinkHolds place order lane (link_at links place) → LinkHolds place (order ++ e ∷ []) lane (link_at now place)

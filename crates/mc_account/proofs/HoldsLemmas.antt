@@ -20,7 +20,7 @@ use Rattle.mc_proxy.specs.declared.session_turns.SessionTurn.TheVariants as turn
 use Rattle.mc_proxy.specs.ProxyState.{ProxyState, Sessions, output_of, sent_by, session_at, session_in, updated, with_fresh, without}
 use Rattle.mc_proxy.specs.Turns.{Alone, Steps}
 use Rattle.mc_account.specs.Lanes.{Lane, LinkHolds}
-use Rattle.mc_account.specs.Orders.{AreInOrder, Entry, IsSized, Order, entries_of, is_complete, IsToldAs}
+use Rattle.mc_account.specs.Orders.{AreInOrder, TakenRequest, IsSized, Order, entries_of, is_complete, IsToldAs}
 use Rattle.mc_account.specs.Holds.{ProxyHolds, SessionHolds, SessionHoldsAt, changed, grown}
 use Rattle.mc_account.proofs.OpenSessions.{at_each, fresh_other, fresh_own, other_number, own_number, updated_other, without_other}
 use Rattle.mc_account.proofs.OrderLemmas.{entries_push_other, entries_push_own, in_order_push}
@@ -136,7 +136,7 @@ holds-fed texts sent order lanes number piece old new h steps =
     (subst (λ (text : List ℕ). SessionHolds number order text (sent number) steps.after) (sym (changed-own number (texts number ++ piece) texts)) own) h
 
 -- `turn` that took a request: the order has one entry more
-abbrev pub entry_taken : {number : ℕ} {old new : ProxyState} → Steps number old new (IsTurn number turns.Took old.ring old.losses) → Entry
+abbrev pub entry_taken : {number : ℕ} {old new : ProxyState} → Steps number old new (IsTurn number turns.Took old.ring old.losses) → TakenRequest
 entry_taken {number = number} {old = old} steps = record {
   session = number;
   request = steps.before.taken;

@@ -19,7 +19,7 @@ use Rattle.mc_proxy.specs.LinkTurns.{Answers}
 use Rattle.mc_proxy.specs.ProxyState.{ProxyState}
 use Rattle.mc_account.specs.Lanes.{Lane, as_waiting}
 use Rattle.mc_account.specs.Lookups.{AreAwaited, IsAwaited, asked_at, command_at, command_in, outcome_at, outcome_in}
-use Rattle.mc_account.specs.Orders.{AreInOrder, Entry, IsSized, Order, Tagged, commands_from, commands_in, commands_to, entries_of, note, numbers_from, outcomes_from, outcomes_in, outcomes_to}
+use Rattle.mc_account.specs.Orders.{AreInOrder, IsSized, Order, Tagged, TakenRequest, commands_from, commands_in, commands_to, entries_of, note, numbers_from, outcomes_from, outcomes_in, outcomes_to}
 use Rattle.mc_account.specs.Holds.{ProxyHolds}
 use Rattle.mc_account.proofs.OpenSessions.{own_number}
 use Rattle.mc_account.proofs.OrderLemmas.{entries-append, entries-note, in_order-note, lengths_in, numbered_after, sized-note}
@@ -104,13 +104,13 @@ commands_found place session request at whole front (c ∷ cs) outcomes before (
     ]) refl
 
 -- an entry of an order is what a look-up by its session and number finds
-pub asked_here : (order front after : Order) (e : Entry) → order ≡ front ++ e ∷ after → AreInOrder (entries_of e.session order) → asked_at order e.session e.request ≡ Some e
+pub asked_here : (order front after : Order) (e : TakenRequest) → order ≡ front ++ e ∷ after → AreInOrder (entries_of e.session order) → asked_at order e.session e.request ≡ Some e
 asked_here order front after e is numbered =
     let own : (e.session == e.session) ≡ true = own_number e.session in
     let mine : entries_of e.session order ≡ entries_of e.session front ++ e ∷ entries_of e.session after =
     ap (λ (es : Order). entries_of e.session es) is ∙ entries-append e.session front (e ∷ after)
     ∙ ap (λ (v : Bool). entries_of e.session front ++ (if v then e ∷ entries_of e.session after else entries_of e.session after)) own in
-    let later : map (λ (x : Entry). x.request) (e ∷ entries_of e.session after) ≡ numbers_from (0 + length (entries_of e.session front)) (e ∷ entries_of e.session after) =
+    let later : map (λ (x : TakenRequest). x.request) (e ∷ entries_of e.session after) ≡ numbers_from (0 + length (entries_of e.session front)) (e ∷ entries_of e.session after) =
     numbered_after 0 (entries_of e.session front) (e ∷ entries_of e.session after) (subst (λ (es : Order). AreInOrder es) mine numbered) in
     let here : e.request ≡ 0 + length (entries_of e.session front) = cc in
     ap (λ (es : Order). slice_get es e.request) mine ∙ get_after (entries_of e.session front) (entries_of e.session after) e e.request (omega (arith, here))
@@ -120,7 +120,7 @@ pub record IsFound (place : ℕ) (order : Order) (c : Tagged) (x : Outcome) : Ty
   pub command : command_at order c.1 ≡ Some (to_place place c.0)
   pub outcome : outcome_at order c.1 ≡ Some x
 
-found_in : (place : ℕ) (order front after : Order) (e : Entry) → order ≡ front ++ e ∷ after → AreInOrder (entries_of e.session order)
+found_in : (place : ℕ) (order front after : Order) (e : TakenRequest) → order ≡ front ++ e ∷ after → AreInOrder (entries_of e.session order)
     → Pairs (IsFound place order) (commands_in place e) (outcomes_in place e)
 found_in place order front after e is numbered =
     let asked = asked_here order front after e is numbered in
@@ -128,10 +128,10 @@ found_in place order front after e is numbered =
     (λ c x h. record {
       command =
           ap₂ (λ (s r : ℕ). command_in (asked_at order s r) c.1.atom) h.whose h.number
-          ∙ ap (λ (o : Option Entry). command_in o c.1.atom) asked ∙ h.command;
+          ∙ ap (λ (o : Option TakenRequest). command_in o c.1.atom) asked ∙ h.command;
       outcome =
           ap₂ (λ (s r : ℕ). outcome_in (asked_at order s r) c.1.atom) h.whose h.number
-          ∙ ap (λ (o : Option Entry). outcome_in o c.1.atom) asked ∙ h.outcome;
+          ∙ ap (λ (o : Option TakenRequest). outcome_in o c.1.atom) asked ∙ h.outcome;
     })
     (commands_found place e.session e.request 0 (route_of_taken e.ring e.what) [] (route_of_taken e.ring e.what) e.outcomes [] e.outcomes refl refl refl refl)
 

@@ -11,7 +11,7 @@ use Rattle.mc_link.specs.declared.turns.Tag.{Tag}
 use Rattle.mc_proxy.specs.Emits.{is_told}
 use Rattle.mc_proxy.specs.SessionNoting.{with_outcome}
 use Rattle.mc_proxy.specs.Sending.{tag_of}
-use Rattle.mc_account.specs.Orders.{Entry, Order, Tagged, IsSized, commands_from, commands_in, commands_to, note, note_in, outcomes_from, outcomes_in, outcomes_to, owns}
+use Rattle.mc_account.specs.Orders.{TakenRequest, Order, Tagged, IsSized, commands_from, commands_in, commands_to, note, note_in, outcomes_from, outcomes_in, outcomes_to, owns}
 use Rattle.mc_account.proofs.OpenSessions.{other_number}
 use Rattle.mc_account.proofs.OrderLemmas.{lengths_from, lengths_in}
 use Rattle.mc_account.proofs.TagLemmas.{count, count_apart, count_past, same_tag, same_tag_self, weight}
@@ -95,7 +95,7 @@ noted_from tag outcome place session request own at (suc ahead) (command ∷ com
     ])
 
 -- likewise in an entry
-noted_in_entry : (tag : Tag) (outcome : Outcome) (place : ℕ) (e : Entry) → IsSized e → outcomes_in place (note_in tag outcome e) ≡ renoted tag outcome (commands_in place e) (outcomes_in place e)
+noted_in_entry : (tag : Tag) (outcome : Outcome) (place : ℕ) (e : TakenRequest) → IsSized e → outcomes_in place (note_in tag outcome e) ≡ renoted tag outcome (commands_in place e) (outcomes_in place e)
 noted_in_entry tag outcome place e sized =
     (elim (owns tag e) as (λ v. owns tag e ≡ v
     → outcomes_from place (route_of_taken e.ring e.what) (if v then with_outcome tag.atom outcome e.outcomes else e.outcomes) ≡ renoted tag outcome (commands_in place e) (outcomes_in place e)) [

@@ -14,7 +14,7 @@ use Rattle.mc_route.specs.declared.losses.Losses.{Losses}
 use Rattle.mc_link.specs.declared.turns.Tag.{Tag}
 use Rattle.mc_proxy.specs.Emits.{answer_by, is_told}
 use Rattle.mc_proxy.specs.SessionNoting.{with_outcome}
-use Rattle.mc_account.specs.Orders.{Entry, Order, Tagged, AreInOrder, IsSized, answers_of, commands_from, commands_in, commands_to, entries_of, note, note_in, numbers_from, outcomes_from, outcomes_in, outcomes_to, owns, IsToldAs}
+use Rattle.mc_account.specs.Orders.{TakenRequest, Order, Tagged, AreInOrder, IsSized, answers_of, commands_from, commands_in, commands_to, entries_of, note, note_in, numbers_from, outcomes_from, outcomes_in, outcomes_to, owns, IsToldAs}
 use Rattle.mc_account.proofs.OpenSessions.{own_number, other_number}
 
 -- a test that the elements of two lists pass, the joined list passes
@@ -35,12 +35,12 @@ entries-append n (e ∷ es) fs =
     ])
 
 -- one entry more, of this session or of another
-pub entries_push_own : (n : ℕ) (es : Order) (e : Entry) → e.session ≡ n → entries_of n (es ++ e ∷ []) ≡ entries_of n es ++ e ∷ []
+pub entries_push_own : (n : ℕ) (es : Order) (e : TakenRequest) → e.session ≡ n → entries_of n (es ++ e ∷ []) ≡ entries_of n es ++ e ∷ []
 entries_push_own n es e own =
     let is : (e.session == n) ≡ true = rw own (own_number n) in
     entries-append n es (e ∷ []) ∙ ap (λ (v : Bool). entries_of n es ++ (if v then e ∷ [] else [])) is
 
-pub entries_push_other : (n : ℕ) (es : Order) (e : Entry) → e.session ≢ n → entries_of n (es ++ e ∷ []) ≡ entries_of n es
+pub entries_push_other : (n : ℕ) (es : Order) (e : TakenRequest) → e.session ≢ n → entries_of n (es ++ e ∷ []) ≡ entries_of n es
 entries_push_other n es e differ =
     entries-append n es (e ∷ []) ∙ ap (λ (v : Bool). entries_of n es ++ (if v then e ∷ [] else [])) (other_number e.session n differ) ∙ append-nil (entries_of n es)
 
@@ -55,10 +55,10 @@ outcomes-append place [] fs = refl
 outcomes-append place (e ∷ es) fs =
     ap (λ (xs : List Outcome). outcomes_in place e ++ xs) (outcomes-append place es fs) ∙ sym (append_assoc (outcomes_in place e) (outcomes_to place es) (outcomes_to place fs))
 
-pub commands-push : (place : ℕ) (es : Order) (e : Entry) → commands_to place (es ++ e ∷ []) ≡ commands_to place es ++ commands_in place e
+pub commands-push : (place : ℕ) (es : Order) (e : TakenRequest) → commands_to place (es ++ e ∷ []) ≡ commands_to place es ++ commands_in place e
 commands-push place es e = commands-append place es (e ∷ []) ∙ ap (λ (cs : List Tagged). commands_to place es ++ cs) (append-nil (commands_in place e))
 
-pub outcomes-push : (place : ℕ) (es : Order) (e : Entry) → outcomes_to place (es ++ e ∷ []) ≡ outcomes_to place es ++ outcomes_in place e
+pub outcomes-push : (place : ℕ) (es : Order) (e : TakenRequest) → outcomes_to place (es ++ e ∷ []) ≡ outcomes_to place es ++ outcomes_in place e
 outcomes-push place es e = outcomes-append place es (e ∷ []) ∙ ap (λ (xs : List Outcome). outcomes_to place es ++ xs) (append-nil (outcomes_in place e))
 
 -- all outcomes of the commands to a place are known, if those taken before and since are
@@ -70,34 +70,34 @@ told_whole place since es before after =
     (ap (λ (fs : Order). outcomes_to place fs) (sym (take-append-drop since es)) ∙ outcomes-append place (take since es) (drop since es)) ∙ both
 
 -- the answers
-pub answers-push : (es : Order) (e : Entry) → answers_of (es ++ e ∷ []) ≡ answers_of es ++ answer_by e.losses e.what e.outcomes
+pub answers-push : (es : Order) (e : TakenRequest) → answers_of (es ++ e ∷ []) ≡ answers_of es ++ answer_by e.losses e.what e.outcomes
 answers-push [] e = append-nil (answer_by e.losses e.what e.outcomes)
 answers-push (x ∷ xs) e =
     ap (λ (bytes : List ℕ). answer_by x.losses x.what x.outcomes ++ bytes) (answers-push xs e)
     ∙ sym (append_assoc (answer_by x.losses x.what x.outcomes) (answers_of xs) (answer_by e.losses e.what e.outcomes))
 
 -- the numbers of a session's requests
-numbers-push : (at : ℕ) (es : Order) (e : Entry) → numbers_from at (es ++ e ∷ []) ≡ numbers_from at es ++ (at + length es) ∷ []
+numbers-push : (at : ℕ) (es : Order) (e : TakenRequest) → numbers_from at (es ++ e ∷ []) ≡ numbers_from at es ++ (at + length es) ∷ []
 numbers-push at [] e = ap (λ (n : ℕ). n ∷ []) (omega arith)
 numbers-push at (x ∷ xs) e =
     let same : suc at + length xs ≡ at + suc (length xs) = omega arith in
     ap (λ (ns : List ℕ). at ∷ ns) (numbers-push (suc at) xs e ∙ ap (λ (n : ℕ). numbers_from (suc at) xs ++ n ∷ []) same)
 
-pub in_order_push : (es : Order) (e : Entry) → AreInOrder es → e.request ≡ length es → AreInOrder (es ++ e ∷ [])
+pub in_order_push : (es : Order) (e : TakenRequest) → AreInOrder es → e.request ≡ length es → AreInOrder (es ++ e ∷ [])
 in_order_push es e before next =
     let same : e.request ≡ 0 + length es = omega (arith, next) in
-    map-append (λ (x : Entry). x.request) es (e ∷ [])
+    map-append (λ (x : TakenRequest). x.request) es (e ∷ [])
     ∙ ap (λ (ns : List ℕ). ns ++ e.request ∷ []) before
     ∙ ap (λ (n : ℕ). numbers_from 0 es ++ n ∷ []) same
     ∙ sym (numbers-push 0 es e)
 
-pub numbered_after : (at : ℕ) (front back : Order) → map (λ (e : Entry). e.request) (front ++ back) ≡ numbers_from at (front ++ back)
-    → map (λ (e : Entry). e.request) back ≡ numbers_from (at + length front) back
+pub numbered_after : (at : ℕ) (front back : Order) → map (λ (e : TakenRequest). e.request) (front ++ back) ≡ numbers_from at (front ++ back)
+    → map (λ (e : TakenRequest). e.request) back ≡ numbers_from (at + length front) back
 numbered_after at [] back h =
     let same : at + 0 ≡ at = omega arith in
     rw same h
 numbered_after at (e ∷ front) back h =
-    let tail : map (λ (x : Entry). x.request) (front ++ back) ≡ numbers_from (suc at) (front ++ back) = cc in
+    let tail : map (λ (x : TakenRequest). x.request) (front ++ back) ≡ numbers_from (suc at) (front ++ back) = cc in
     let same : suc at + length front ≡ at + suc (length front) = omega arith in
     rw (← same) (numbered_after (suc at) front back tail)
 
@@ -115,11 +115,12 @@ entries-note n tag outcome (e ∷ es) =
       | false ↦ again
     ])
 
-pub taken-note : (tag : Tag) (outcome : Outcome) (es : Order) → map (λ (e : Entry). e.what) (note tag outcome es) ≡ map (λ (e : Entry). e.what) es
+pub taken-note : (tag : Tag) (outcome : Outcome) (es : Order) → map (λ (e : TakenRequest). e.what) (note tag outcome es) ≡ map (λ (e : TakenRequest). e.what) es
 taken-note tag outcome [] = refl
 taken-note tag outcome (e ∷ es) = ap (λ (ts : List Taken). e.what ∷ ts) (taken-note tag outcome es)
 
-pub requests-note : (tag : Tag) (outcome : Outcome) (es : Order) → map (λ (e : Entry). e.request) (note tag outcome es) ≡ map (λ (e : Entry). e.request) es
+pub requests-note : (tag : Tag) (outcome : Outcome) (es : Order)
+    → map (λ (e : TakenRequest). e.request) (note tag outcome es) ≡ map (λ (e : TakenRequest). e.request) es
 requests-note tag outcome [] = refl
 requests-note tag outcome (e ∷ es) = ap (λ (ns : List ℕ). e.request ∷ ns) (requests-note tag outcome es)
 
@@ -139,7 +140,7 @@ length-with_outcome at outcome [] = refl
 length-with_outcome zero outcome (x ∷ xs) = refl
 length-with_outcome (suc at) outcome (x ∷ xs) = ap suc (length-with_outcome at outcome xs)
 
-sized-note_in : (tag : Tag) (outcome : Outcome) (e : Entry) → IsSized e → IsSized (note_in tag outcome e)
+sized-note_in : (tag : Tag) (outcome : Outcome) (e : TakenRequest) → IsSized e → IsSized (note_in tag outcome e)
 sized-note_in tag outcome e h =
     (elim (owns tag e) as (λ v. length (if v then with_outcome tag.atom outcome e.outcomes else e.outcomes) ≡ length (route_of_taken e.ring e.what)) [
       | true ↦ length-with_outcome tag.atom outcome e.outcomes ∙ h
@@ -171,7 +172,7 @@ lengths_from place session request at (command ∷ commands) (x ∷ xs) h =
       | false ↦ again
     ])
 
-pub lengths_in : (place : ℕ) (e : Entry) → IsSized e → length (commands_in place e) ≡ length (outcomes_in place e)
+pub lengths_in : (place : ℕ) (e : TakenRequest) → IsSized e → length (commands_in place e) ≡ length (outcomes_in place e)
 lengths_in place e h = lengths_from place e.session e.request 0 (route_of_taken e.ring e.what) e.outcomes h
 
 pub lengths_to : (place : ℕ) (es : Order) → All IsSized es → length (commands_to place es) ≡ length (outcomes_to place es)

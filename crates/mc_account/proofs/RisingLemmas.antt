@@ -16,7 +16,7 @@ use Rattle.mc_proxy.specs.SessionState.{link_at}
 use Rattle.mc_proxy.specs.ProxyState.{ProxyState}
 use Rattle.mc_account.specs.Lanes.{Lane, as_waiting}
 use Rattle.mc_account.specs.Lookups.{IsBefore, outcome_at}
-use Rattle.mc_account.specs.Orders.{AreInOrder, Entry, Order, Tagged, commands_from, commands_in, commands_to, entries_of, numbers_from}
+use Rattle.mc_account.specs.Orders.{AreInOrder, Order, Tagged, TakenRequest, commands_from, commands_in, commands_to, entries_of, numbers_from}
 use Rattle.mc_account.specs.Holds.{ProxyHolds}
 use Rattle.mc_account.proofs.OpenSessions.{own_number}
 use Rattle.mc_account.proofs.OrderLemmas.{commands-append}
@@ -95,16 +95,16 @@ rises_from place session request at (c ∷ cs) =
     ])
 
 -- the requests of a session that follow one of a number have later numbers
-later_to : (place session at : ℕ) (es : Order) → map (λ (e : Entry). e.request) (entries_of session es) ≡ numbers_from at (entries_of session es)
+later_to : (place session at : ℕ) (es : Order) → map (λ (e : TakenRequest). e.request) (entries_of session es) ≡ numbers_from at (entries_of session es)
     → Each (λ (d : Tagged). session ≡ d.1.session → at ≤ d.1.request) (commands_to place es)
 later_to place session at [] numbered = tt
 later_to place session at (e ∷ es) numbered =
     (elim (e.session == session) as (λ v. e.session == session ≡ v
-    → map (λ (x : Entry). x.request) (if v then e ∷ entries_of session es else entries_of session es) ≡ numbers_from at (if v then e ∷ entries_of session es else entries_of session es)
+    → map (λ (x : TakenRequest). x.request) (if v then e ∷ entries_of session es else entries_of session es) ≡ numbers_from at (if v then e ∷ entries_of session es else entries_of session es)
     → Each (λ (d : Tagged). session ≡ d.1.session → at ≤ d.1.request) (commands_in place e ++ commands_to place es)) [
       | true ↦ λ own mine.
           let here : e.request ≡ at = cc in
-          let after : map (λ (x : Entry). x.request) (entries_of session es) ≡ numbers_from (suc at) (entries_of session es) = cc in
+          let after : map (λ (x : TakenRequest). x.request) (entries_of session es) ≡ numbers_from (suc at) (entries_of session es) = cc in
           each_joined (λ (d : Tagged). session ≡ d.1.session → at ≤ d.1.request) (commands_in place e) (commands_to place es)
           (each_weaker (IsFrom e.session e.request 0) (λ (d : Tagged). session ≡ d.1.session → at ≤ d.1.request) (commands_in place e)
           (λ d h _. omega (arith, h.number, here)) (from_each place e.session e.request 0 (route_of_taken e.ring e.what)))
@@ -122,27 +122,27 @@ later_to place session at (e ∷ es) numbered =
 
 -- the requests of each session are numbered, from some number on
 abbrev AreNumbered : Order → Type 0
-AreNumbered es = (session : ℕ) → (at : ℕ) × (map (λ (e : Entry). e.request) (entries_of session es) ≡ numbers_from at (entries_of session es))
+AreNumbered es = (session : ℕ) → (at : ℕ) × (map (λ (e : TakenRequest). e.request) (entries_of session es) ≡ numbers_from at (entries_of session es))
 
-numbered_tail : (e : Entry) (es : Order) → AreNumbered (e ∷ es) → AreNumbered es
+numbered_tail : (e : TakenRequest) (es : Order) → AreNumbered (e ∷ es) → AreNumbered es
 numbered_tail e es h session =
     let whole = h session in
     (elim (e.session == session) as (λ v.
-    map (λ (x : Entry). x.request) (if v then e ∷ entries_of session es else entries_of session es) ≡ numbers_from whole.0 (if v then e ∷ entries_of session es else entries_of session es)
-    → (at : ℕ) × (map (λ (x : Entry). x.request) (entries_of session es) ≡ numbers_from at (entries_of session es))) [
-      | true ↦ λ mine. (let after : map (λ (x : Entry). x.request) (entries_of session es) ≡ numbers_from (suc whole.0) (entries_of session es) = cc in (suc whole.0, after))
+    map (λ (x : TakenRequest). x.request) (if v then e ∷ entries_of session es else entries_of session es) ≡ numbers_from whole.0 (if v then e ∷ entries_of session es else entries_of session es)
+    → (at : ℕ) × (map (λ (x : TakenRequest). x.request) (entries_of session es) ≡ numbers_from at (entries_of session es))) [
+      | true ↦ λ mine. (let after : map (λ (x : TakenRequest). x.request) (entries_of session es) ≡ numbers_from (suc whole.0) (entries_of session es) = cc in (suc whole.0, after))
       | false ↦ λ mine. (whole.0, mine)
     ]) whole.1
 
-numbered_next : (e : Entry) (es : Order) → AreNumbered (e ∷ es)
-    → map (λ (x : Entry). x.request) (entries_of e.session es) ≡ numbers_from (suc e.request) (entries_of e.session es)
+numbered_next : (e : TakenRequest) (es : Order) → AreNumbered (e ∷ es)
+    → map (λ (x : TakenRequest). x.request) (entries_of e.session es) ≡ numbers_from (suc e.request) (entries_of e.session es)
 numbered_next e es h =
     let whole = h e.session in
-    let mine : map (λ (x : Entry). x.request) (e ∷ entries_of e.session es) ≡ numbers_from whole.0 (e ∷ entries_of e.session es) =
-    subst (λ (v : Bool). map (λ (x : Entry). x.request) (if v then e ∷ entries_of e.session es else entries_of e.session es)
+    let mine : map (λ (x : TakenRequest). x.request) (e ∷ entries_of e.session es) ≡ numbers_from whole.0 (e ∷ entries_of e.session es) =
+    subst (λ (v : Bool). map (λ (x : TakenRequest). x.request) (if v then e ∷ entries_of e.session es else entries_of e.session es)
     ≡ numbers_from whole.0 (if v then e ∷ entries_of e.session es else entries_of e.session es)) (own_number e.session) whole.1 in
     let here : e.request ≡ whole.0 = cc in
-    let after : map (λ (x : Entry). x.request) (entries_of e.session es) ≡ numbers_from (suc whole.0) (entries_of e.session es) = cc in
+    let after : map (λ (x : TakenRequest). x.request) (entries_of e.session es) ≡ numbers_from (suc whole.0) (entries_of e.session es) = cc in
     after ∙ ap (λ (n : ℕ). numbers_from (suc n) (entries_of e.session es)) (sym here)
 
 -- the commands to a place rise

@@ -21,7 +21,7 @@ use Rattle.mc_proxy.specs.SessionNoting.{noted_at, noted_in, with_outcome}
 use Rattle.mc_proxy.specs.Sending.{at_once}
 use Rattle.mc_proxy.specs.SessionState.{SessionState, Unanswered, answered, fresh_session}
 use Rattle.mc_proxy.specs.SessionTurns.{IsFed, Takes}
-use Rattle.mc_account.specs.Orders.{Entry, Order, AreInOrder, entries_of, is_complete, note, note_in, numbers_from, owns, taken_of, unanswered_of}
+use Rattle.mc_account.specs.Orders.{TakenRequest, Order, AreInOrder, entries_of, is_complete, note, note_in, numbers_from, owns, taken_of, unanswered_of}
 use Rattle.mc_account.specs.Holds.{SessionLeft, SessionHolds, SessionHoldsAt}
 use Rattle.mc_account.proofs.OpenSessions.{other_number}
 use Rattle.mc_account.proofs.OrderLemmas.{answers-push, entries-note, entries_push_own, note-append, numbered_after, passes_joined, taken-note}
@@ -33,7 +33,7 @@ pub session_same : (number : ℕ) (order longer : Order) (text text' sent sent' 
     → SessionHoldsAt number order text sent session → SessionHoldsAt number longer text' sent' session
 session_same number order longer text text' sent sent' None same text_is sent_is h = record {
   untaken = h.untaken;
-  rest = ap (λ (es : Order). map (λ (e : Entry). e.what) es ++ h.untaken) same ∙ h.rest ∙ ap requests_of (sym text_is);
+  rest = ap (λ (es : Order). map (λ (e : TakenRequest). e.what) es ++ h.untaken) same ∙ h.rest ∙ ap requests_of (sym text_is);
   done = h.done;
   incomplete = h.incomplete;
   split = same ∙ h.split;
@@ -43,7 +43,7 @@ session_same number order longer text text' sent sent' None same text_is sent_is
 }
 session_same number order longer text text' sent sent' (Some session) same text_is sent_is h = record {
   rest = λ more.
-      ap (λ (es : Order). map (λ (e : Entry). e.what) es ++ rest_of session.reader more) same
+      ap (λ (es : Order). map (λ (e : TakenRequest). e.what) es ++ rest_of session.reader more) same
       ∙ h.rest more ∙ ap (λ (bytes : List ℕ). requests_of (bytes ++ more)) (sym text_is);
   done = h.done;
   incomplete = h.incomplete;
@@ -57,7 +57,7 @@ session_same number order longer text text' sent sent' (Some session) same text_
 -- a session of which nothing was taken yet
 pub session_fresh : (number : ℕ) (order : Order) → entries_of number order ≡ [] → SessionHolds number order [] [] fresh_session
 session_fresh number order none = record {
-  rest = λ more. ap (λ (es : Order). map (λ (e : Entry). e.what) es ++ requests_of more) none;
+  rest = λ more. ap (λ (es : Order). map (λ (e : TakenRequest). e.what) es ++ requests_of more) none;
   done = [];
   incomplete = [];
   split = none;
@@ -104,14 +104,14 @@ pub session_took : (number : ℕ) (order : Order) (text sent : List ℕ) (ring :
     → SessionHolds number
     (order ++ (record { session = number; request = before.taken; what = what; ring = ring; losses = losses; outcomes = map (at_once links) (route_of_taken ring what) }) ∷ []) text sent after
 session_took number order text sent ring losses links now before after what h takes =
-    let e : Entry = record { session = number; request = before.taken; what = what; ring = ring; losses = losses; outcomes = map (at_once links) (route_of_taken ring what) } in
+    let e : TakenRequest = record { session = number; request = before.taken; what = what; ring = ring; losses = losses; outcomes = map (at_once links) (route_of_taken ring what) } in
     let mine : entries_of number (order ++ (record { session = number; request = before.taken; what = what; ring = ring; losses = losses; outcomes = map (at_once links) (route_of_taken ring what) }) ∷ [])
     ≡ entries_of number order ++ (record { session = number; request = before.taken; what = what; ring = ring; losses = losses; outcomes = map (at_once links) (route_of_taken ring what) }) ∷ [] =
     entries_push_own number order e refl in
     record {
       rest = λ more.
-          ap (λ (es : Order). map (λ (x : Entry). x.what) es ++ rest_of after.reader more) mine
-          ∙ ap (λ (ts : List Taken). ts ++ rest_of after.reader more) (map-append (λ (x : Entry). x.what) (entries_of number order) (e ∷ []))
+          ap (λ (es : Order). map (λ (x : TakenRequest). x.what) es ++ rest_of after.reader more) mine
+          ∙ ap (λ (ts : List Taken). ts ++ rest_of after.reader more) (map-append (λ (x : TakenRequest). x.what) (entries_of number order) (e ∷ []))
           ∙ append_assoc (taken_of number order) (what ∷ []) (rest_of after.reader more)
           ∙ ap (λ (ts : List Taken). taken_of number order ++ ts) (sym (takes.first.rest more))
           ∙ h.rest more;
@@ -152,7 +152,7 @@ answer_kept losses (Faulty fault) outcomes = refl
 
 -- the oldest unanswered request, if it can be answered: it is complete, and its answer is emitted
 record Emits (before after : SessionState) (incomplete : Order) : Type 0 where
-  pub first : Entry
+  pub first : TakenRequest
   pub others : Order
   pub is : incomplete ≡ first ∷ others
   pub complete : is_complete first ≡ true
@@ -231,12 +231,12 @@ owners_elsewhere tag number (e ∷ es) differ =
     ]) refl
 
 -- an outcome is noted at its place among the unanswered requests
-noted_among : (tag : Tag) (outcome : Outcome) (at : ℕ) (es : Order) → AreOf tag.session es → map (λ (e : Entry). e.request) es ≡ numbers_from at es → at ≤ tag.request
+noted_among : (tag : Tag) (outcome : Outcome) (at : ℕ) (es : Order) → AreOf tag.session es → map (λ (e : TakenRequest). e.request) es ≡ numbers_from at es → at ≤ tag.request
     → map unanswered_of (note tag outcome es) ≡ noted_at (tag.request - at) tag.atom outcome (map unanswered_of es)
 noted_among tag outcome at [] whose numbered h = refl
 noted_among tag outcome at (e ∷ es) whose numbered h =
     let here : e.request ≡ at = cc in
-    let past : map (λ (x : Entry). x.request) es ≡ numbers_from (suc at) es = cc in
+    let past : map (λ (x : TakenRequest). x.request) es ≡ numbers_from (suc at) es = cc in
     ⊎_elim
     (λ (later : at < tag.request).
     let apart : owns tag e ≡ false = and_right (e.session == tag.session) (e.request == tag.request) (other_number e.request tag.request (λ same. omega (arith, here, same, later))) in
@@ -281,11 +281,11 @@ noted_split tag outcome order done incomplete split absent =
 
 noted_taken : (tag : Tag) (outcome : Outcome) (number : ℕ) (order : Order) → taken_of number (note tag outcome order) ≡ taken_of number order
 noted_taken tag outcome number order =
-    ap (λ (es : Order). map (λ (e : Entry). e.what) es) (entries-note number tag outcome order) ∙ taken-note tag outcome (entries_of number order)
+    ap (λ (es : Order). map (λ (e : TakenRequest). e.what) es) (entries-note number tag outcome order) ∙ taken-note tag outcome (entries_of number order)
 
 -- the session notes it at the same place
 noted_unanswered : (tag : Tag) (outcome : Outcome) (session : SessionState) (done incomplete : Order) → AreOf tag.session incomplete
-    → map (λ (e : Entry). e.request) incomplete ≡ numbers_from (length done) incomplete → session.unanswered ≡ map unanswered_of incomplete
+    → map (λ (e : TakenRequest). e.request) incomplete ≡ numbers_from (length done) incomplete → session.unanswered ≡ map unanswered_of incomplete
     → session.taken ≡ length done + length incomplete → 1 ≤ owners tag incomplete
     → noted_in tag outcome session ≡ record session { unanswered = map unanswered_of (note tag outcome incomplete) }
 noted_unanswered tag outcome session done incomplete whose numbered unanswered taken there =
@@ -307,8 +307,8 @@ session_noted tag outcome order text sent session numbered once open_one h =
     let n = not_done tag order h.done h.incomplete h.split h.complete once open_one in
     let whose = are_of_after tag.session h.done h.incomplete (subst (λ (es : Order). AreOf tag.session es) h.split (are_of tag.session order)) in
     let past = numbered_after 0 h.done h.incomplete (subst (λ (es : Order). AreInOrder es) h.split numbered) in
-    let ahead : map (λ (e : Entry). e.request) h.incomplete ≡ numbers_from (length h.done) h.incomplete =
-    subst (λ (at : ℕ). map (λ (e : Entry). e.request) h.incomplete ≡ numbers_from at h.incomplete) (omega arith) past in
+    let ahead : map (λ (e : TakenRequest). e.request) h.incomplete ≡ numbers_from (length h.done) h.incomplete =
+    subst (λ (at : ℕ). map (λ (e : TakenRequest). e.request) h.incomplete ≡ numbers_from at h.incomplete) (omega arith) past in
     let size : session.taken ≡ length h.done + length h.incomplete = h.taken ∙ ap (λ (es : Order). length es) h.split ∙ length-append h.done h.incomplete in
     let now = noted_unanswered tag outcome session h.done h.incomplete whose ahead h.unanswered size n.there in
     let split = noted_split tag outcome order h.done h.incomplete h.split n.absent in

@@ -16,7 +16,7 @@ use Rattle.mc_proxy.specs.ProxyState.{ProxyState}
 use Rattle.mc_account.specs.Answered.{AreAnswers}
 use Rattle.mc_account.specs.Lanes.{Lane}
 use Rattle.mc_account.specs.Lookups.{AreAwaited, outcome_at, outcome_in}
-use Rattle.mc_account.specs.Orders.{AreInOrder, Entry, Order, answers_of, entries_of, is_complete, note, note_all, note_in, numbers_from, owns}
+use Rattle.mc_account.specs.Orders.{AreInOrder, Order, TakenRequest, answers_of, entries_of, is_complete, note, note_all, note_in, numbers_from, owns}
 use Rattle.mc_account.specs.Holds.{ProxyHolds}
 use Rattle.mc_account.proofs.OpenSessions.{other_number}
 use Rattle.mc_account.proofs.OrderLemmas.{entries-append, entries-note}
@@ -78,7 +78,7 @@ answers_sent number order count sent unsent bytes h = record {
 }
 
 -- one entry more
-pub answers_push : (number : ℕ) (order : Order) (e : Entry) (count : ℕ) (sent unsent : List ℕ) → AreAnswers number order count sent unsent
+pub answers_push : (number : ℕ) (order : Order) (e : TakenRequest) (count : ℕ) (sent unsent : List ℕ) → AreAnswers number order count sent unsent
     → AreAnswers number (order ++ e ∷ []) count sent unsent
 answers_push number order e count sent unsent h =
     let mine : entries_of number (order ++ e ∷ []) ≡ entries_of number order ++ entries_of number (e ∷ []) = entries-append number order (e ∷ []) in
@@ -88,12 +88,12 @@ answers_push number order e count sent unsent h =
     (ap (λ (es : Order). take count es) mine ∙ take-append-le count (entries_of number order) (entries_of number (e ∷ [])) h.within) h
 
 -- if requests are numbered, those with earlier numbers do not have a tag
-owners_earlier : (tag : Tag) (at count : ℕ) (es : Order) → map (λ (e : Entry). e.request) es ≡ numbers_from at es → at + count ≤ tag.request → owners tag (take count es) ≡ 0
+owners_earlier : (tag : Tag) (at count : ℕ) (es : Order) → map (λ (e : TakenRequest). e.request) es ≡ numbers_from at es → at + count ≤ tag.request → owners tag (take count es) ≡ 0
 owners_earlier tag at zero es numbered h = refl
 owners_earlier tag at (suc count) [] numbered h = refl
 owners_earlier tag at (suc count) (e ∷ es) numbered h =
     let here : e.request ≡ at = cc in
-    let after : map (λ (x : Entry). x.request) es ≡ numbers_from (suc at) es = cc in
+    let after : map (λ (x : TakenRequest). x.request) es ≡ numbers_from (suc at) es = cc in
     let apart : owns tag e ≡ false = and_right (e.session == tag.session) (e.request == tag.request) (other_number e.request tag.request (λ same. omega (arith, here, same, h))) in
     rw apart (omega (arith, owners_earlier tag (suc at) count es after (omega (arith, h))))
 

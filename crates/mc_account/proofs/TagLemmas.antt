@@ -11,7 +11,7 @@ use Rattle.mc_route.specs.declared.routes.Routed.{Routed}
 use Rattle.mc_link.specs.declared.turns.Tag.{Tag}
 use Rattle.mc_proxy.specs.Emits.{is_told}
 use Rattle.mc_proxy.specs.Sending.{tag_of}
-use Rattle.mc_account.specs.Orders.{Entry, Order, Tagged, AreInOrder, IsSized, commands_from, commands_in, commands_to, entries_of, is_complete, numbers_from, outcomes_from, outcomes_in, outcomes_to, owns}
+use Rattle.mc_account.specs.Orders.{TakenRequest, Order, Tagged, AreInOrder, IsSized, commands_from, commands_in, commands_to, entries_of, is_complete, numbers_from, outcomes_from, outcomes_in, outcomes_to, owns}
 use Rattle.mc_account.proofs.OpenSessions.{own_number, other_number}
 use Rattle.mc_account.proofs.OrderLemmas.{lengths_in}
 
@@ -99,7 +99,7 @@ count_once tag place other session request at (command ∷ commands) differ =
           ])
     ]) refl
 
-pub count_in_both : (tag : Tag) (place other : ℕ) (e : Entry) → place ≢ other → count tag (commands_in place e) + count tag (commands_in other e) ≤ weight (owns tag e)
+pub count_in_both : (tag : Tag) (place other : ℕ) (e : TakenRequest) → place ≢ other → count tag (commands_in place e) + count tag (commands_in other e) ≤ weight (owns tag e)
 count_in_both tag place other e differ =
     (elim (owns tag e) as (λ v. owns tag e ≡ v → count tag (commands_in place e) + count tag (commands_in other e) ≤ weight v) [
       | true ↦ λ is. count_once tag place other e.session e.request 0 (route_of_taken e.ring e.what) differ
@@ -109,7 +109,7 @@ count_in_both tag place other e differ =
           omega (arith, mine, others)
     ]) refl
 
-pub count_in : (tag : Tag) (place : ℕ) (e : Entry) → count tag (commands_in place e) ≤ weight (owns tag e)
+pub count_in : (tag : Tag) (place : ℕ) (e : TakenRequest) → count tag (commands_in place e) ≤ weight (owns tag e)
 count_in tag place e = omega (arith, count_in_both tag place (suc place) e (λ same. omega (arith, same)))
 
 -- how many entries have the command of a tag
@@ -148,19 +148,19 @@ owners_of tag (e ∷ es) =
     ]) refl
 
 -- if requests are numbered, those with later numbers do not have the tag, and one has it at most
-pub owners_later : (tag : Tag) (at : ℕ) (es : Order) → map (λ (e : Entry). e.request) es ≡ numbers_from at es → tag.request < at → owners tag es ≡ 0
+pub owners_later : (tag : Tag) (at : ℕ) (es : Order) → map (λ (e : TakenRequest). e.request) es ≡ numbers_from at es → tag.request < at → owners tag es ≡ 0
 owners_later tag at [] numbered h = refl
 owners_later tag at (e ∷ es) numbered h =
     let here : e.request ≡ at = cc in
-    let after : map (λ (x : Entry). x.request) es ≡ numbers_from (suc at) es = cc in
+    let after : map (λ (x : TakenRequest). x.request) es ≡ numbers_from (suc at) es = cc in
     let apart : owns tag e ≡ false = and_right (e.session == tag.session) (e.request == tag.request) (other_number e.request tag.request (λ same. omega (arith, here, same, h))) in
     rw apart (omega (arith, owners_later tag (suc at) es after (omega (arith, h))))
 
-owners_once : (tag : Tag) (at : ℕ) (es : Order) → map (λ (e : Entry). e.request) es ≡ numbers_from at es → owners tag es ≤ 1
+owners_once : (tag : Tag) (at : ℕ) (es : Order) → map (λ (e : TakenRequest). e.request) es ≡ numbers_from at es → owners tag es ≤ 1
 owners_once tag at [] numbered = omega arith
 owners_once tag at (e ∷ es) numbered =
     let here : e.request ≡ at = cc in
-    let after : map (λ (x : Entry). x.request) es ≡ numbers_from (suc at) es = cc in
+    let after : map (λ (x : TakenRequest). x.request) es ≡ numbers_from (suc at) es = cc in
     let again = owners_once tag (suc at) es after in
     (elim (owns tag e) as (λ v. owns tag e ≡ v → weight v + owners tag es ≤ 1) [
       | true ↦ λ is.
@@ -248,7 +248,7 @@ told_from place (command ∷ commands) (x ∷ xs) h =
     ])
 
 -- if a command is pending, its entry is not complete
-awaited_in : (tag : Tag) (place : ℕ) (e : Entry) → awaited tag (commands_in place e) (outcomes_in place e) ≤ weight (not (is_complete e) && owns tag e)
+awaited_in : (tag : Tag) (place : ℕ) (e : TakenRequest) → awaited tag (commands_in place e) (outcomes_in place e) ≤ weight (not (is_complete e) && owns tag e)
 awaited_in tag place e =
     (elim (is_complete e) as (λ v. is_complete e ≡ v → awaited tag (commands_in place e) (outcomes_in place e) ≤ weight (not v && owns tag e)) [
       | true ↦ λ is. omega (arith, awaited_none tag (commands_in place e) (outcomes_in place e) (told_from place (route_of_taken e.ring e.what) e.outcomes is))

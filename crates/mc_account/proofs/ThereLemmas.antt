@@ -14,7 +14,7 @@ use Rattle.mc_proxy.specs.SessionState.{link_at}
 use Rattle.mc_proxy.specs.ProxyState.{ProxyState}
 use Rattle.mc_account.specs.Lanes.{Lane}
 use Rattle.mc_account.specs.Lookups.{IsBefore, asked_at, command_at, command_in, outcome_at}
-use Rattle.mc_account.specs.Orders.{AreInOrder, Entry, Order, commands_from, commands_in, commands_to, entries_of, numbers_from}
+use Rattle.mc_account.specs.Orders.{AreInOrder, Order, TakenRequest, commands_from, commands_in, commands_to, entries_of, numbers_from}
 use Rattle.mc_account.specs.Holds.{ProxyHolds}
 use Rattle.mc_account.proofs.OpenSessions.{own_number}
 use Rattle.mc_account.proofs.RisingLemmas.{past_front, told_before_waiting}
@@ -56,26 +56,26 @@ from_there place session request at (c ∷ cs) (suc k) number atom is there =
     ])
 
 -- in an order: the request of a number of a session is this one
-there_in : (place session at : ℕ) (es : Order) (e : Entry) (k request number : ℕ) (atom : Atom (List ℕ)) → map (λ (x : Entry). x.request) (entries_of session es) ≡ numbers_from at (entries_of session es)
+there_in : (place session at : ℕ) (es : Order) (e : TakenRequest) (k request number : ℕ) (atom : Atom (List ℕ)) → map (λ (x : TakenRequest). x.request) (entries_of session es) ≡ numbers_from at (entries_of session es)
     → request ≡ at + k → slice_get (entries_of session es) k ≡ Some e → slice_get (route_of_taken e.ring e.what) number ≡ Some (to_place place atom)
     → (i : ℕ) × (slice_get (commands_to place es) i ≡ Some (atom, tag_of session request number))
 there_in place session at [] e zero request number atom numbered is asked there = absurd (none-some e asked)
 there_in place session at [] e (suc k) request number atom numbered is asked there = absurd (none-some e asked)
 there_in place session at (x ∷ xs) e k request number atom numbered is asked there =
     (elim (x.session == session) as (λ v. x.session == session ≡ v
-    → map (λ (y : Entry). y.request) (if v then x ∷ entries_of session xs else entries_of session xs) ≡ numbers_from at (if v then x ∷ entries_of session xs else entries_of session xs)
+    → map (λ (y : TakenRequest). y.request) (if v then x ∷ entries_of session xs else entries_of session xs) ≡ numbers_from at (if v then x ∷ entries_of session xs else entries_of session xs)
     → slice_get (if v then x ∷ entries_of session xs else entries_of session xs) k ≡ Some e
     → (i : ℕ) × (slice_get (commands_in place x ++ commands_to place xs) i ≡ Some (atom, tag_of session request number))) [
       | true ↦ λ own mine found.
           let here : x.request ≡ at = cc in
-          let after : map (λ (y : Entry). y.request) (entries_of session xs) ≡ numbers_from (suc at) (entries_of session xs) = cc in
+          let after : map (λ (y : TakenRequest). y.request) (entries_of session xs) ≡ numbers_from (suc at) (entries_of session xs) = cc in
           (elim (first_or_later x (entries_of session xs) k e found) [
             | inl h ↦
                 let first : k ≡ 0 = h.0 in
                 let asked_first : x.request ≡ request = omega (arith, here, is, first) in
                 let whose : x.session ≡ session = eqb-true x.session session own in
                 let goes : slice_get (route_of_taken x.ring x.what) number ≡ Some (to_place place atom) =
-                ap (λ (y : Entry). slice_get (route_of_taken y.ring y.what) number) h.1 ∙ there in
+                ap (λ (y : TakenRequest). slice_get (route_of_taken y.ring y.what) number) h.1 ∙ there in
                 let inside = from_there place x.session x.request 0 (route_of_taken x.ring x.what) number number atom (omega arith) goes in (
                   inside.0,
                   in_front (commands_in place x) (commands_to place xs) inside.0 (atom, tag_of session request number)
@@ -91,8 +91,8 @@ there_in place session at (x ∷ xs) e k request number atom numbered is asked t
           (length (commands_in place x) + again.0, past_front (commands_in place x) (commands_to place xs) again.0 (length (commands_in place x) + again.0) refl ∙ again.1)
     ]) refl numbered asked
 
-asked_of : (asked : Option Entry) (number : ℕ) (routed : Routed) → command_in asked number ≡ Some routed
-    → (e : Entry) × (asked ≡ Some e) × (slice_get (route_of_taken e.ring e.what) number ≡ Some routed)
+asked_of : (asked : Option TakenRequest) (number : ℕ) (routed : Routed) → command_in asked number ≡ Some routed
+    → (e : TakenRequest) × (asked ≡ Some e) × (slice_get (route_of_taken e.ring e.what) number ≡ Some routed)
 asked_of None number routed there = absurd (none-some routed there)
 asked_of (Some e) number routed there = (e, refl, there)
 

@@ -12,7 +12,7 @@ use Rattle.mc_route.specs.declared.routes.Routed.{Routed}
 use Rattle.mc_route.proofs.RouteLemmas.{route_inside}
 use Rattle.mc_link.specs.declared.turns.Tag.{Tag}
 use Rattle.mc_account.specs.Lookups.{IsRoutedWithin, asked_at, command_at, command_in}
-use Rattle.mc_account.specs.Orders.{Entry, Order, entries_of, note, note_in}
+use Rattle.mc_account.specs.Orders.{Order, TakenRequest, entries_of, note, note_in}
 
 -- a property of each of a list is one of the element at a place
 all_at : {X : Type 0} (P : X → Type 0) (xs : List X) (k : ℕ) (x : X) → All P xs → slice_get xs k ≡ Some x → P x
@@ -27,7 +27,7 @@ taken_inside ring (Whole request) good = route_inside ring request good
 taken_inside ring (Faulty fault) good = All-nil (λ (routed : Routed). routed.server < length ring.servers)
 
 -- a property of each entry is one of those of a session
-entries_all : (P : Entry → Type 0) (session : ℕ) (order : Order) → All P order → All P (entries_of session order)
+entries_all : (P : TakenRequest → Type 0) (session : ℕ) (order : Order) → All P order → All P (entries_of session order)
 entries_all P session [] h = All-nil P
 entries_all P session (e ∷ es) h =
     let again = entries_all P session es (All-tail P e es h) in
@@ -36,7 +36,7 @@ entries_all P session (e ∷ es) h =
       | false ↦ again
     ])
 
-command_within : (places : ℕ) (asked : Option Entry) (atom : ℕ) (routed : Routed) → ((e : Entry) → asked ≡ Some e → IsRoutedWithin places e) → command_in asked atom ≡ Some routed
+command_within : (places : ℕ) (asked : Option TakenRequest) (atom : ℕ) (routed : Routed) → ((e : TakenRequest) → asked ≡ Some e → IsRoutedWithin places e) → command_in asked atom ≡ Some routed
     → routed.server < places
 command_within places None atom routed good at = absurd (none-some routed at)
 command_within places (Some e) atom routed good at =
@@ -51,7 +51,7 @@ commands_within places order h tag routed at =
     (λ e is. all_at (IsRoutedWithin places) (entries_of tag.session order) tag.request e (entries_all (IsRoutedWithin places) tag.session order h) is) at
 
 -- as an order changes, and if there are more servers
-pub within-push : (places : ℕ) (order : Order) (e : Entry) → All (IsRoutedWithin places) order → IsRoutedWithin places e → All (IsRoutedWithin places) (order ++ e ∷ [])
+pub within-push : (places : ℕ) (order : Order) (e : TakenRequest) → All (IsRoutedWithin places) order → IsRoutedWithin places e → All (IsRoutedWithin places) (order ++ e ∷ [])
 within-push places order e h own = All-push (IsRoutedWithin places) order e h own
 
 pub within-note : (places : ℕ) (tag : Tag) (outcome : Outcome) (order : Order) → All (IsRoutedWithin places) order → All (IsRoutedWithin places) (note tag outcome order)

@@ -9,18 +9,18 @@ use Rattle.mc_route.specs.declared.outcomes.Outcome.TheVariants.{Awaited}
 use Rattle.mc_route.specs.declared.routes.Routed.{Routed}
 use Rattle.mc_link.specs.LinkState.{Waiting}
 use Rattle.mc_link.specs.declared.turns.Tag.{Tag}
-use Rattle.mc_account.specs.Orders.{Entry, Order, entries_of, note}
+use Rattle.mc_account.specs.Orders.{Order, TakenRequest, entries_of, note}
 
 -- the request of a number of a session, if it was taken
-abbrev pub asked_at : Order → ℕ → ℕ → Option Entry
+abbrev pub asked_at : Order → ℕ → ℕ → Option TakenRequest
 asked_at order session request = slice_get (entries_of session order) request
 
 -- the command of a number of a request, with the place of its server; and its outcome
-abbrev pub command_in : Option Entry → ℕ → Option Routed
+abbrev pub command_in : Option TakenRequest → ℕ → Option Routed
 command_in None atom = None
 command_in (Some e) atom = slice_get (route_of_taken e.ring e.what) atom
 
-abbrev pub outcome_in : Option Entry → ℕ → Option Outcome
+abbrev pub outcome_in : Option TakenRequest → ℕ → Option Outcome
 outcome_in None atom = None
 outcome_in (Some e) atom = slice_get e.outcomes atom
 
@@ -48,6 +48,6 @@ AreAwaited [] outcome order = Unit {0}
 AreAwaited (tag ∷ tags) outcome order = (outcome_at order tag ≡ Some Awaited) × AreAwaited tags outcome (note tag outcome order)
 
 -- an entry was routed by a ring of at most `places` servers
-pub record IsRoutedWithin (places : ℕ) (e : Entry) : Type 0 where
+pub record IsRoutedWithin (places : ℕ) (e : TakenRequest) : Type 0 where
   pub ring : IsRing e.ring
   pub few : length e.ring.servers ≤ places

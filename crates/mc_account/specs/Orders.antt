@@ -17,7 +17,7 @@ use Rattle.mc_proxy.specs.SessionState.{Unanswered}
 
 -- a request or fault that was taken: its session, its number there, the request itself, the ring by which it was routed,
 -- the choice for its lost commands, and the outcomes of its commands so far
-pub record Entry : Type 0 where
+pub record TakenRequest : Type 0 where
   pub session : ℕ
   pub request : ℕ
   pub what : Taken
@@ -27,7 +27,7 @@ pub record Entry : Type 0 where
 
 -- all that was taken, in one order, the oldest first
 abbrev pub Order : Type 0
-Order = List Entry
+Order = List TakenRequest
 
 -- what was taken of a session
 abbrev pub entries_of : ℕ → Order → Order
@@ -38,7 +38,7 @@ abbrev pub taken_of : ℕ → Order → List Taken
 taken_of session order = map (λ e. e.what) (entries_of session order)
 
 -- a number of consecutive numbers, from one on
-abbrev pub numbers_from : ℕ → List Entry → List ℕ
+abbrev pub numbers_from : ℕ → List TakenRequest → List ℕ
 numbers_from at [] = []
 numbers_from at (e ∷ es) = at ∷ numbers_from (suc at) es
 
@@ -57,7 +57,7 @@ commands_from place session request at (command ∷ commands) =
     if command.server == place then (command.atom, tag_of session request at) ∷ commands_from place session request (suc at) commands
     else commands_from place session request (suc at) commands
 
-abbrev pub commands_in : ℕ → Entry → List Tagged
+abbrev pub commands_in : ℕ → TakenRequest → List Tagged
 commands_in place e = commands_from place e.session e.request 0 (route_of_taken e.ring e.what)
 
 -- the outcomes of those commands
@@ -67,7 +67,7 @@ outcomes_from place (command ∷ commands) [] = []
 outcomes_from place (command ∷ commands) (outcome ∷ outcomes) =
     if command.server == place then outcome ∷ outcomes_from place commands outcomes else outcomes_from place commands outcomes
 
-abbrev pub outcomes_in : ℕ → Entry → List Outcome
+abbrev pub outcomes_in : ℕ → TakenRequest → List Outcome
 outcomes_in place e = outcomes_from place (route_of_taken e.ring e.what) e.outcomes
 
 -- the commands of an order to the server at a place, in that order, and their outcomes
@@ -80,23 +80,23 @@ outcomes_to place [] = []
 outcomes_to place (e ∷ es) = outcomes_in place e ++ outcomes_to place es
 
 -- each command has its outcome
-abbrev pub IsSized : Entry → Type 0
+abbrev pub IsSized : TakenRequest → Type 0
 IsSized e = length e.outcomes ≡ length (route_of_taken e.ring e.what)
 
 -- an entry's lost commands are answered by this choice
-abbrev pub IsToldAs : Losses → Entry → Type 0
+abbrev pub IsToldAs : Losses → TakenRequest → Type 0
 IsToldAs losses e = e.losses ≡ losses
 
 -- whether the outcome of each command of an entry is known
-abbrev pub is_complete : Entry → Bool
+abbrev pub is_complete : TakenRequest → Bool
 is_complete e = list_all is_told e.outcomes
 
 -- whether a tag is of a command of an entry
-abbrev pub owns : Tag → Entry → Bool
+abbrev pub owns : Tag → TakenRequest → Bool
 owns tag e = (e.session == tag.session) && (e.request == tag.request)
 
 -- the outcome of a command, noted in its entry
-abbrev pub note_in : Tag → Outcome → Entry → Entry
+abbrev pub note_in : Tag → Outcome → TakenRequest → TakenRequest
 note_in tag outcome e = record e {
   outcomes = if owns tag e then with_outcome tag.atom outcome e.outcomes else e.outcomes;
 }
@@ -109,7 +109,7 @@ note_all [] outcome order = order
 note_all (tag ∷ tags) outcome order = note_all tags outcome (note tag outcome order)
 
 -- an entry as its session keeps it until it is answered
-abbrev pub unanswered_of : Entry → Unanswered
+abbrev pub unanswered_of : TakenRequest → Unanswered
 unanswered_of e = record { what = kept_of e.what; losses = e.losses; outcomes = e.outcomes }
 
 -- the answers to entries, joined

@@ -23,7 +23,7 @@ ghost use Rattle.mc_proxy.specs.ProxyState.{ProxyState, opened, output_of, sent_
 ghost use Rattle.mc_proxy.specs.Turns.{Alone, Steps};
 ghost use Rattle.mc_account.specs.Lanes.{Lane, fresh_lane};
 ghost use Rattle.mc_account.specs.Lookups.{AreAwaited, IsAwaited, IsBefore, IsRoutedWithin, command_at, outcome_at};
-ghost use Rattle.mc_account.specs.Orders.{AreInOrder, Entry, IsSized, Order, Tagged, commands_to, entries_of, is_complete, note, note_all, outcomes_to};
+ghost use Rattle.mc_account.specs.Orders.{AreInOrder, IsSized, Order, Tagged, TakenRequest, commands_to, entries_of, is_complete, note, note_all, outcomes_to};
 ghost use Rattle.mc_account.specs.Answered.{AreAnswers, WasAnswered, answered_at};
 ghost use Rattle.mc_account.specs.Holds.{ProxyHolds, changed, grown};
 
@@ -208,7 +208,7 @@ pub fn awaited_commands_are_not_answered()
 /// An answer that a client got stays its answer, whether its session is open or has left. It stays after a request is taken,
 /// after an outcome is noted that was pending, and after bytes are consumed.
 pub fn answers_stay()
-    ensures taken { (number : ℕ) (order : Order) (e : Entry) (count : ℕ) (sent unsent : List ℕ)
+    ensures taken { (number : ℕ) (order : Order) (e : TakenRequest) (count : ℕ) (sent unsent : List ℕ)
         → AreAnswers number order count sent unsent → AreAnswers number (order ++ e ∷ []) count sent unsent }
     ensures noted { (number : ℕ) (order : Order) (tag : Tag) (outcome : Outcome) (count : ℕ) (sent unsent : List ℕ)
         → AreInOrder (entries_of number order) → outcome_at order tag ≡ Some Awaited

@@ -19,7 +19,7 @@ use Rattle.mc_ring.specs.Rings.{RingState}
 use Rattle.mc_route.specs.Routes.{route_of_gets, route_of_taken, to_each}
 use Rattle.mc_route.specs.declared.routes.Routed.{Routed}
 use Rattle.mc_proxy.specs.SessionState.{SessionState}
-use Rattle.mc_account.specs.Orders.{Entry as Asked, Order, commands_from, commands_in, taken_of}
+use Rattle.mc_account.specs.Orders.{Order, TakenRequest, commands_from, commands_in, taken_of}
 use Rattle.mc_account.specs.Holds.{SessionHolds}
 use Rattle.mc_account.proofs.OrderLemmas.{passes_parts}
 use Rattle.mc_history.specs.Generations.{is_good}
@@ -65,7 +65,7 @@ good_from place session request at (c ∷ cs) h =
       | false ↦ again
     ])
 
-pub good_in : (place : ℕ) (e : Asked) → can_be_spelled e.what ≡ true → list_all is_good (commands_in place e) ≡ true
+pub good_in : (place : ℕ) (e : TakenRequest) → can_be_spelled e.what ≡ true → list_all is_good (commands_in place e) ≡ true
 good_in place e h = good_from place e.session e.request 0 (route_of_taken e.ring e.what) (good_routes e.ring e.what h)
 
 -- what a turn takes of a session can be spelled

@@ -7,7 +7,7 @@ use Rattle.mc_route.specs.Routes.{route_of_taken, to_place}
 use Rattle.mc_route.specs.declared.outcomes.Outcome.{Outcome}
 use Rattle.mc_route.specs.declared.routes.Routed.{Routed}
 use Rattle.mc_link.specs.declared.turns.Tag.{Tag}
-use Rattle.mc_account.specs.Orders.{Entry as Asked, Order, Tagged, commands_from, commands_in, commands_to, entries_of, note, note_all}
+use Rattle.mc_account.specs.Orders.{Order, Tagged, TakenRequest, commands_from, commands_in, commands_to, entries_of, note, note_all}
 use Rattle.mc_account.proofs.OrderLemmas.{commands-append, entries-append, entries-note, entries_push_own}
 use Rattle.mc_history.specs.Made.{Each}
 use Rattle.mc_account.specs.Lookups.{command_at, command_in}
@@ -43,7 +43,7 @@ still_there [] fs (suc k) atom routed h = absurd (none-some routed h)
 still_there (x ∷ xs) fs zero atom routed h = h
 still_there (x ∷ xs) fs (suc k) atom routed h = still_there xs fs k atom routed h
 
-pub keeps_push : (order : Order) (e : Asked) → Keeps order (order ++ e ∷ [])
+pub keeps_push : (order : Order) (e : TakenRequest) → Keeps order (order ++ e ∷ [])
 keeps_push order e tag routed h =
     ap (λ (es : Order). command_in (slice_get es tag.request) tag.atom) (entries-append tag.session order (e ∷ []))
     ∙ still_there (entries_of tag.session order) (entries_of tag.session (e ∷ [])) tag.request tag.atom routed h
@@ -65,7 +65,7 @@ keeps_note_all [] outcome order tag routed h = h
 keeps_note_all (t ∷ ts) outcome order tag routed h = keeps_note_all ts outcome (note t outcome order) tag routed (keeps_note t outcome order tag routed h)
 
 -- the commands of the request that was taken last
-get_last : (es : Order) (e : Asked) (k : ℕ) → k ≡ length es → slice_get (es ++ e ∷ []) k ≡ Some e
+get_last : (es : Order) (e : TakenRequest) (k : ℕ) → k ≡ length es → slice_get (es ++ e ∷ []) k ≡ Some e
 get_last [] e zero h = refl
 get_last [] e (suc k) h = absurd (omega (arith, h))
 get_last (x ∷ xs) e zero h = absurd (omega (arith, h))
@@ -91,13 +91,13 @@ whole_from place session request at whole front (c ∷ cs) is size =
       | false ↦ λ other. again
     ]) refl
 
-pub named_in : (place : ℕ) (order : Order) (e : Asked) → e.request ≡ length (entries_of e.session order) → Each (IsNamed place (order ++ e ∷ [])) (commands_in place e)
+pub named_in : (place : ℕ) (order : Order) (e : TakenRequest) → e.request ≡ length (entries_of e.session order) → Each (IsNamed place (order ++ e ∷ [])) (commands_in place e)
 named_in place order e number =
     each_weaker (λ (c : Tagged). (c.1.session ≡ e.session) × (c.1.request ≡ e.request) × (slice_get (route_of_taken e.ring e.what) c.1.atom ≡ Some (to_place place c.0))) (IsNamed place (order ++ e ∷ [])) (commands_in place e)
     (λ c h.
     ap₂ (λ (s r : ℕ). command_in (slice_get (entries_of s (order ++ e ∷ [])) r) c.1.atom) h.0 h.1
     ∙ ap (λ (es : Order). command_in (slice_get es e.request) c.1.atom) (entries_push_own e.session order e refl)
-    ∙ ap (λ (o : Option Asked). command_in o c.1.atom) (get_last (entries_of e.session order) e e.request number)
+    ∙ ap (λ (o : Option TakenRequest). command_in o c.1.atom) (get_last (entries_of e.session order) e e.request number)
     ∙ h.2)
     (whole_from place e.session e.request 0 (route_of_taken e.ring e.what) [] (route_of_taken e.ring e.what) refl refl)
 

@@ -13,7 +13,7 @@ use Rattle.mc_link.specs.declared.turns.Tag.{Tag}
 use Rattle.mc_proxy.specs.SessionNoting.{with_outcome}
 use Rattle.mc_proxy.specs.Sending.{at_once, tag_of}
 use Rattle.mc_proxy.specs.SessionState.{link_at}
-use Rattle.mc_account.specs.Orders.{Entry as Asked, Order, AreInOrder, entries_of, note, note_all, numbers_from, owns}
+use Rattle.mc_account.specs.Orders.{TakenRequest, Order, AreInOrder, entries_of, note, note_all, numbers_from, owns}
 use Rattle.mc_account.proofs.OrderLemmas.{entries-append, entries-note, in_order-note}
 use Rattle.mc_history.specs.declared.entries.Entry.{Entry}
 use Rattle.mc_history.specs.Made.{Each, Made, entry_of, made_on}
@@ -58,7 +58,7 @@ at_once_fresh links (r ∷ rs) zero reply e =
     ]) same
 at_once_fresh links (r ∷ rs) (suc atom) reply e = at_once_fresh links rs atom reply e
 
-one_fresh : (e : Asked) (atom : ℕ) (reply : AReply (List ℕ)) → ((atom : ℕ) (reply : AReply (List ℕ)) → slice_get e.outcomes atom ≢ Some (Reply reply))
+one_fresh : (e : TakenRequest) (atom : ℕ) (reply : AReply (List ℕ)) → ((atom : ℕ) (reply : AReply (List ℕ)) → slice_get e.outcomes atom ≢ Some (Reply reply))
     → (j : ℕ) → outcome_in (slice_get (e ∷ []) j) atom ≢ Some (Reply reply)
 one_fresh e atom reply fresh zero k = fresh atom reply k
 one_fresh e atom reply fresh (suc zero) k = absurd (none-some (Reply reply) k)
@@ -72,7 +72,7 @@ pub taken_fresh : (links : List LinkState) (routes : List Routed) (outcomes : Li
     → (atom : ℕ) (reply : AReply (List ℕ)) → slice_get outcomes atom ≢ Some (Reply reply)
 taken_fresh links routes outcomes is atom reply e = at_once_fresh links routes atom reply (ap (λ (xs : List Outcome). slice_get xs atom) (sym is) ∙ e)
 
-pub news_push : (place : ℕ) (order : Order) (e : Asked) → ((atom : ℕ) (reply : AReply (List ℕ)) → slice_get e.outcomes atom ≢ Some (Reply reply)) → NoNews place order (order ++ e ∷ [])
+pub news_push : (place : ℕ) (order : Order) (e : TakenRequest) → ((atom : ℕ) (reply : AReply (List ℕ)) → slice_get e.outcomes atom ≢ Some (Reply reply)) → NoNews place order (order ++ e ∷ [])
 news_push place order e fresh tag atom reply is known =
     let mine : entries_of tag.session (order ++ e ∷ []) ≡ entries_of tag.session order ++ entries_of tag.session (e ∷ []) = entries-append tag.session order (e ∷ []) in
     let none : (j : ℕ) → outcome_in (slice_get (entries_of tag.session (e ∷ [])) j) tag.atom ≢ Some (Reply reply) =
@@ -84,7 +84,7 @@ news_push place order e fresh tag atom reply is known =
     ap (λ (es : Order). slice_get es tag.request) mine
     ∙ push_back (entries_of tag.session order) (entries_of tag.session (e ∷ [])) tag.request tag.atom reply none
     (ap (λ (es : Order). outcome_in (slice_get es tag.request) tag.atom) (sym mine) ∙ known) in
-    (ap (λ (o : Option Asked). command_in o tag.atom) (sym same) ∙ is, ap (λ (o : Option Asked). outcome_in o tag.atom) (sym same) ∙ known)
+    (ap (λ (o : Option TakenRequest). command_in o tag.atom) (sym same) ∙ is, ap (λ (o : Option TakenRequest). outcome_in o tag.atom) (sym same) ∙ known)
 
 -- after an outcome is noted, a known outcome was known before, or is that one
 with_back : (at : ℕ) (outcome : Outcome) (xs : List Outcome) (a : ℕ) (q : Outcome) → slice_get (with_outcome at outcome xs) a ≡ Some q → (slice_get xs a ≡ Some q) ⊎ ((a ≡ at) × (q ≡ outcome))
@@ -97,16 +97,16 @@ with_back (suc at) outcome (x ∷ xs) (suc a) q e = elim (with_back at outcome x
   | inr h ↦ inr (ap suc h.0, h.1)
 ]
 
-pub own_of : (session : ℕ) (order : Order) → Each (λ (e : Asked). e.session ≡ session) (entries_of session order)
+pub own_of : (session : ℕ) (order : Order) → Each (λ (e : TakenRequest). e.session ≡ session) (entries_of session order)
 own_of session [] = tt
 own_of session (e ∷ es) =
     let again = own_of session es in
-    (elim (e.session == session) as (λ v. e.session == session ≡ v → Each (λ (x : Asked). x.session ≡ session) (if v then e ∷ entries_of session es else entries_of session es)) [
+    (elim (e.session == session) as (λ v. e.session == session ≡ v → Each (λ (x : TakenRequest). x.session ≡ session) (if v then e ∷ entries_of session es else entries_of session es)) [
       | true ↦ λ is. (eqb-true e.session session is, again)
       | false ↦ λ is. again
     ]) refl
 
-slot_back : (t : Tag) (outcome : Outcome) (session : ℕ) (es : Order) (at k a : ℕ) (q : Outcome) → map (λ (e : Asked). e.request) es ≡ numbers_from at es → Each (λ (e : Asked). e.session ≡ session) es
+slot_back : (t : Tag) (outcome : Outcome) (session : ℕ) (es : Order) (at k a : ℕ) (q : Outcome) → map (λ (e : TakenRequest). e.request) es ≡ numbers_from at es → Each (λ (e : TakenRequest). e.session ≡ session) es
     → outcome_in (slice_get (note t outcome es) k) a ≡ Some q
     → (outcome_in (slice_get es k) a ≡ Some q) ⊎ ((session ≡ t.session) × (k + at ≡ t.request) × (a ≡ t.atom) × (q ≡ outcome))
 slot_back t outcome session [] at zero a q numbered own e = absurd (none-some q e)
@@ -125,7 +125,7 @@ slot_back t outcome session (x ∷ xs) at zero a q numbered own e =
       | false ↦ λ is now. inl now
     ]) refl e
 slot_back t outcome session (x ∷ xs) at (suc k) a q numbered own e =
-    let after : map (λ (y : Asked). y.request) xs ≡ numbers_from (suc at) xs = cc in
+    let after : map (λ (y : TakenRequest). y.request) xs ≡ numbers_from (suc at) xs = cc in
     elim (slot_back t outcome session xs (suc at) k a q after own.1 e) [
       | inl h ↦ inl h
       | inr h ↦ (let number : suc k + at ≡ t.request = omega (arith, h.1) in inr (h.0, number, h.2, h.3))

@@ -17,7 +17,7 @@ use Rattle.mc_ring.specs.Rings.{IsRing, RingState}
 use Rattle.mc_route.specs.declared.losses.Losses.TheVariants.{Told}
 use Rattle.mc_route.specs.declared.outcomes.Outcome.TheVariants as outcomes
 use Rattle.mc_cache.specs.CacheState.{opening_cache}
-use Rattle.mc_account.specs.Orders.{Entry as AskedFor, IsSized, Order}
+use Rattle.mc_account.specs.Orders.{IsSized, Order, TakenRequest}
 use Rattle.mc_world.specs.declared.events.Event.TheVariants.{ServerTurn}
 use Rattle.mc_world.specs.Accounts.{Accounts}
 use Rattle.mc_world.specs.Logs.{Log, number_of}
@@ -40,13 +40,13 @@ abbrev a_hit : AReply (List ℕ)
 a_hit = Hit 0 None (codes "a")
 
 -- the requests that were taken
-abbrev first : AskedFor
+abbrev first : TakenRequest
 first = asked_of one_server 0 (store_asked (codes "a")) (outcomes.Reply Stored)
 
-abbrev second : AskedFor
+abbrev second : TakenRequest
 second = asked_of one_server 1 get_asked (outcomes.Reply a_hit)
 
-abbrev third : AskedFor
+abbrev third : TakenRequest
 third = asked_of one_server 2 (store_asked (codes "b")) (outcomes.Reply Stored)
 
 abbrev early_order : Order

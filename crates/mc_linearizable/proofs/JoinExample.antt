@@ -23,7 +23,7 @@ use Rattle.mc_route.specs.Routes.{to_owner, to_place}
 use Rattle.mc_route.specs.declared.losses.Losses.TheVariants.{Told}
 use Rattle.mc_route.specs.declared.outcomes.Outcome.TheVariants as outcomes
 use Rattle.mc_cache.specs.CacheState.{IsWithinBounds, opening_cache}
-use Rattle.mc_account.specs.Orders.{Entry as AskedFor, IsSized, Order}
+use Rattle.mc_account.specs.Orders.{IsSized, Order, TakenRequest}
 use Rattle.mc_world.specs.declared.events.Event.TheVariants.{LinkBack, LinkLost, ServerTurn}
 use Rattle.mc_world.specs.Accounts.{Accounts}
 use Rattle.mc_world.specs.Logs.{Log, in_life, number_of, restarts}
@@ -74,19 +74,19 @@ at_second atom = ap (λ (p : ℕ). Some (to_place p atom)) joined_ring.2
 to_second : (atom : Atom (List ℕ)) → to_owner next (codes "k") atom ∷ [] ≡ to_place 1 atom ∷ []
 to_second atom = ap (λ (p : ℕ). to_place p atom ∷ []) joined_ring.2
 
-abbrev first : AskedFor
+abbrev first : TakenRequest
 first = asked_of one_server 0 (store_asked (codes "a")) (outcomes.Reply Stored)
 
-abbrev second : AskedFor
+abbrev second : TakenRequest
 second = asked_of one_server 1 gets_asked (outcomes.Reply a_hit)
 
-abbrev third : AskedFor
+abbrev third : TakenRequest
 third = asked_of one_server 2 get_asked (outcomes.Reply Miss)
 
-abbrev fourth : AskedFor
+abbrev fourth : TakenRequest
 fourth = asked_of next 3 (store_asked (codes "b")) (outcomes.Reply Stored)
 
-abbrev fifth : AskedFor
+abbrev fifth : TakenRequest
 fifth = asked_of next 4 cas_asked (outcomes.Reply Stored)
 
 abbrev join_order : Order

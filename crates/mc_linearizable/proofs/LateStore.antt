@@ -16,7 +16,7 @@ use Rattle.mc_ring.specs.Rings.{IsRing, RingState}
 use Rattle.mc_route.specs.declared.losses.Losses.TheVariants.{Told}
 use Rattle.mc_route.specs.declared.outcomes.Outcome.TheVariants as outcomes
 use Rattle.mc_cache.specs.CacheState.{opening_cache}
-use Rattle.mc_account.specs.Orders.{Entry as AskedFor, IsSized, Order}
+use Rattle.mc_account.specs.Orders.{IsSized, Order, TakenRequest}
 use Rattle.mc_world.specs.declared.events.Event.TheVariants.{ServerTurn}
 use Rattle.mc_world.specs.Accounts.{Accounts}
 use Rattle.mc_world.specs.Logs.{Log, number_of}
@@ -40,13 +40,13 @@ unfolding words line_end first_line name_of next_request requests_within request
 text_read = refl
 
 -- the requests that were taken: the first command was lost
-abbrev first : AskedFor
+abbrev first : TakenRequest
 first = asked_of one_server 0 (store_asked (codes "a")) outcomes.Lost
 
-abbrev second : AskedFor
+abbrev second : TakenRequest
 second = asked_of one_server 1 (store_asked (codes "b")) (outcomes.Reply Stored)
 
-abbrev third : AskedFor
+abbrev third : TakenRequest
 third = asked_of one_server 2 get_asked (outcomes.Reply a_hit)
 
 abbrev late_order : Order

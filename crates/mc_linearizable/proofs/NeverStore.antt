@@ -11,7 +11,7 @@ use Rattle.mc_route.specs.declared.losses.Losses.TheVariants.{Told}
 use Rattle.mc_route.specs.declared.outcomes.Outcome.TheVariants as outcomes
 use Rattle.mc_proxy.specs.Sending.{tag_of}
 use Rattle.mc_cache.specs.CacheState.{opening_cache}
-use Rattle.mc_account.specs.Orders.{Entry as AskedFor, IsSized, Order}
+use Rattle.mc_account.specs.Orders.{IsSized, Order, TakenRequest}
 use Rattle.mc_history.specs.declared.entries.Entry.{Entry}
 use Rattle.mc_history.specs.Histories.{HasNone}
 use Rattle.mc_world.specs.Accounts.{Accounts, up_when_taken}
@@ -28,7 +28,7 @@ unfolding words line_end first_line name_of next_request requests_within request
 text_read = refl
 
 -- the request was taken, its link was lost, and its client was answered
-abbrev only : AskedFor
+abbrev only : TakenRequest
 only = asked_of one_server 0 (store_asked (codes "a")) outcomes.Lost
 
 abbrev never_order : Order

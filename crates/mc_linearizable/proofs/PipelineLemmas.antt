@@ -8,7 +8,7 @@ use Rattle.mc_route.specs.Routes.{owner_in, to_place}
 use Rattle.mc_link.specs.declared.turns.Tag.{Tag}
 use Rattle.mc_cache.specs.CacheState.{CacheState}
 use Rattle.mc_account.specs.Lookups.{IsBefore, asked_at}
-use Rattle.mc_account.specs.Orders.{Entry as Asked, Order}
+use Rattle.mc_account.specs.Orders.{Order, TakenRequest}
 use Rattle.mc_history.specs.declared.entries.Entry.{Entry}
 use Rattle.mc_history.specs.Histories.{tag_in}
 use Rattle.mc_world.specs.Accounts.{Accounts, WasTaken}
@@ -64,7 +64,7 @@ one_place order histories key a b own same =
     let one : e.0 ≡ f.0 = same_Some e.0 f.0 (sym e.1 ∙ ap₂ (λ (c r : ℕ). asked_at order c r) own same ∙ f.1) in
     let here : a.place ≡ owner_in e.0.ring key = taken-own e.0.ring e.0.what a.entry.atom (to_place a.place a.atom) e.2 key (has_key key a.atom a.on) in
     let there : b.place ≡ owner_in f.0.ring key = taken-own f.0.ring f.0.what b.entry.atom (to_place b.place b.atom) f.2 key (has_key key b.atom b.on) in
-    here ∙ ap (λ (x : Asked). owner_in x.ring key) one ∙ sym there
+    here ∙ ap (λ (x : TakenRequest). owner_in x.ring key) one ∙ sym there
 
 not_above : (losses : Losses) (ring : RingState) (opening : CacheState) (order : Order) (texts outs : ℕ → List ℕ) (histories : ℕ → List Entry) (log : Log)
     → Accounts losses ring opening order texts outs histories log → IsRing ring → (key : List ℕ) (a b : Executed order histories key) → a.entry.client ≡ b.entry.client

@@ -28,7 +28,7 @@ use Rattle.mc_link.specs.declared.turns.Tag.{Tag}
 use Rattle.mc_proxy.specs.Sending.{tag_of}
 use Rattle.mc_cache.specs.CacheState.{CacheState}
 use Rattle.mc_account.specs.Lookups.{asked_at, command_at, outcome_at}
-use Rattle.mc_account.specs.Orders.{AreInOrder, Entry as AskedFor, IsSized, Order, commands_to, entries_of, is_complete}
+use Rattle.mc_account.specs.Orders.{AreInOrder, IsSized, Order, TakenRequest, commands_to, entries_of, is_complete}
 use Rattle.mc_world.specs.declared.events.Event.TheVariants.{Emit}
 use Rattle.mc_world.specs.Accounts.{Accounts, NotAnswered, WasTaken}
 use Rattle.mc_world.specs.Logs.{IsRingAfter, Log, before, in_life, loses, moments_of, number_of, puts, serves, taken_before, takes, turns_of}
@@ -50,7 +50,7 @@ store_of value = atoms.Update (Store Set None (codes "k") 0 (pos 0) value)
 abbrev pub store_asked : List ℕ → Taken
 store_asked value = Whole (requests.Update (Store Set None (codes "k") 0 (pos 0) value) false)
 
-abbrev pub asked_of : RingState → ℕ → Taken → Outcome → AskedFor
+abbrev pub asked_of : RingState → ℕ → Taken → Outcome → TakenRequest
 asked_of ring request what outcome = record { session = 0; request = request; what = what; ring = ring; losses = Told; outcomes = outcome ∷ [] }
 
 abbrev pub entry_of : ℕ → Atom (List ℕ) → AReply (List ℕ) → Entry
@@ -176,7 +176,7 @@ risen_two order low (x ∷ xs) (inr next) (suc j) (suc k) d e r q at also less f
     risen_two order (suc x.request) xs next.1 j k d e r q at also (omega (arith, less)) first second
 
 -- what is known of a request: its one command, and the outcome of that
-pub record IsKnown (histories : ℕ → List Entry) (log : Log) (k : ℕ) (x : AskedFor) : Type 0 where
+pub record IsKnown (histories : ℕ → List Entry) (log : Log) (k : ℕ) (x : TakenRequest) : Type 0 where
   pub place : ℕ
   pub atom : Atom (List ℕ)
   pub outcome : Outcome
@@ -185,7 +185,7 @@ pub record IsKnown (histories : ℕ → List Entry) (log : Log) (k : ℕ) (x : A
   pub told : IsToldBy histories log (tag_of 0 k 0) (to_place place atom) outcome
 
 -- the entry of its command gives the outcome, if its reply was taken
-pub replied_as : (histories : ℕ → List Entry) (log : Log) (k : ℕ) (x : AskedFor) (place : ℕ) (atom : Atom (List ℕ)) (reply : AReply (List ℕ)) (n : ℕ) (e : Entry)
+pub replied_as : (histories : ℕ → List Entry) (log : Log) (k : ℕ) (x : TakenRequest) (place : ℕ) (atom : Atom (List ℕ)) (reply : AReply (List ℕ)) (n : ℕ) (e : Entry)
     → route_of_taken x.ring x.what ≡ to_place place atom ∷ [] → x.outcomes ≡ outcomes.Reply reply ∷ [] → slice_get (histories place) n ≡ Some e
     → tag_in e ≡ tag_of 0 k 0 → e.reply ≡ spelling_of atom reply → IsKnown histories log k x
 replied_as histories log k x place atom reply n e routed became at whose says =
@@ -193,15 +193,15 @@ replied_as histories log k x place atom reply n e routed became at whose says =
 
 -- an account, request by request and entry by entry; each server that took commands lost its link
 pub record IsSmall (ring : RingState) (opening : CacheState) (order : Order) (text : List ℕ) (first second : List Entry) (log : Log) : Type 0 where
-  pub own : AllByRecursion (λ (x : AskedFor). x.session ≡ 0) order
-  pub read : requests_of text ≡ map (λ (x : AskedFor). x.what) order
-  pub turns : map (λ (x : AskedFor). x.session) order ≡ turns_of log
+  pub own : AllByRecursion (λ (x : TakenRequest). x.session ≡ 0) order
+  pub read : requests_of text ≡ map (λ (x : TakenRequest). x.what) order
+  pub turns : map (λ (x : TakenRequest). x.session) order ≡ turns_of log
   pub numbered : AreInOrder order
-  pub rings : Each (λ (k : ℕ) (x : AskedFor). IsRingAfter ring (before (takes 0) k log) x.ring) 0 order
+  pub rings : Each (λ (k : ℕ) (x : TakenRequest). IsRingAfter ring (before (takes 0) k log) x.ring) 0 order
   pub sized : All IsSized order
   pub complete : list_all is_complete (take (length order) order) ≡ true
   pub known : Each (IsKnown (two_histories first second) log) 0 order
-  pub after : Each (λ (k : ℕ) (x : AskedFor). k < number_of (takes 0) (before (puts 0) k log)) 0 order
+  pub after : Each (λ (k : ℕ) (x : TakenRequest). k < number_of (takes 0) (before (puts 0) k log)) 0 order
   pub answers : (client : ℕ) → number_of (puts client) log ≡ (if 0 == client then length order else 0)
   pub first_legal : (life : ℕ) → IsLegal order 0 opening (in_life 0 life log first)
   pub second_legal : (life : ℕ) → IsLegal order 1 opening (in_life 1 life log second)
@@ -225,25 +225,26 @@ nothing_by : (v : Bool) → ◌≡◌ {A = Order} [] (if v then [] else [])
 nothing_by true = refl
 nothing_by false = refl
 
-more_by : (v : Bool) (x : AskedFor) (xs : Order) → (if v then x ∷ (if v then xs else []) else (if v then xs else [])) ≡ (if v then x ∷ xs else [])
+more_by : (v : Bool) (x : TakenRequest) (xs : Order) → (if v then x ∷ (if v then xs else []) else (if v then xs else [])) ≡ (if v then x ∷ xs else [])
 more_by true x xs = refl
 more_by false x xs = refl
 
-all_own : (client : ℕ) (order : Order) → AllByRecursion (λ (x : AskedFor). x.session ≡ 0) order → entries_of client order ≡ (if 0 == client then order else [])
+all_own : (client : ℕ) (order : Order) → AllByRecursion (λ (x : TakenRequest). x.session ≡ 0) order
+    → entries_of client order ≡ (if 0 == client then order else [])
 all_own client [] own = nothing_by (0 == client)
 all_own client (x ∷ xs) own =
     ap (λ (s : ℕ). if s == client then x ∷ entries_of client xs else entries_of client xs) own.0
     ∙ ap (λ (rest : Order). if 0 == client then x ∷ rest else rest) (all_own client xs own.1) ∙ more_by (0 == client) x xs
 
-asked_own : (order : Order) → AllByRecursion (λ (x : AskedFor). x.session ≡ 0) order → (client request : ℕ) (x : AskedFor) → asked_at order client request ≡ Some x
+asked_own : (order : Order) → AllByRecursion (λ (x : TakenRequest). x.session ≡ 0) order → (client request : ℕ) (x : TakenRequest) → asked_at order client request ≡ Some x
     → (0 ≡ client) × (slice_get order request ≡ Some x)
 asked_own order own client request x at =
     let there = there_if (0 == client) order request x (ap (λ (es : Order). slice_get es request) (sym (all_own client order own)) ∙ at) in
     (eqb-true 0 client there.0, there.1)
 
-asked_by : (order : Order) (text : List ℕ) → requests_of text ≡ map (λ (x : AskedFor). x.what) order → (v : Bool)
-    → (untaken : List Taken) × (map (λ (x : AskedFor). x.what) (if v then order else []) ++ untaken ≡ requests_of (if v then text else []))
-asked_by order text read true = ([], append-nil (map (λ (x : AskedFor). x.what) order) ∙ sym read)
+asked_by : (order : Order) (text : List ℕ) → requests_of text ≡ map (λ (x : TakenRequest). x.what) order → (v : Bool)
+    → (untaken : List Taken) × (map (λ (x : TakenRequest). x.what) (if v then order else []) ++ untaken ≡ requests_of (if v then text else []))
+asked_by order text read true = ([], append-nil (map (λ (x : TakenRequest). x.what) order) ∙ sym read)
 asked_by order text read false = ([], sym nothing_read)
 
 numbered_by : (order : Order) → AreInOrder order → (v : Bool) → AreInOrder (if v then order else [])
@@ -278,7 +279,7 @@ known_by ring opening order text first second log h tag place atom outcome at be
     let told = outcome_in_request (asked_at order tag.session tag.request) tag.atom outcome became in
     let same : told.0 ≡ asked.0 = same_Some told.0 asked.0 (sym told.1 ∙ asked.1) in
     let is = one_here known.outcome tag.atom outcome
-    (ap (λ (os : List Outcome). slice_get os tag.atom) (sym (ap (λ (x : AskedFor). x.outcomes) same ∙ known.became)) ∙ told.2) in
+    (ap (λ (os : List Outcome). slice_get os tag.atom) (sym (ap (λ (x : TakenRequest). x.outcomes) same ∙ known.became)) ∙ told.2) in
     subst (λ (q : Outcome). IsToldBy (two_histories first second) log tag (to_place place atom) q) (sym is.1)
     (subst (λ (c : Routed). IsToldBy (two_histories first second) log tag c known.outcome) (sym command.1)
     (subst (λ (t : Tag). IsToldBy (two_histories first second) log t (to_place known.place known.atom) known.outcome) (tag_is tag tag.request own.0 refl command.0) known.told))
@@ -337,21 +338,21 @@ after_by ring opening order text first second log h client request early =
     let own = early_by (length order) request (0 == client) many in
     let got = got_within order request own.1 in
     subst (λ (c : ℕ). request < number_of (takes c) (before (puts c) request log)) (eqb-true 0 client own.0)
-    (each_of (λ (k : ℕ) (x : AskedFor). k < number_of (takes 0) (before (puts 0) k log)) order h.after request got.0 got.1)
+    (each_of (λ (k : ℕ) (x : TakenRequest). k < number_of (takes 0) (before (puts 0) k log)) order h.after request got.0 got.1)
 
 rings_by : (ring : RingState) (opening : CacheState) (order : Order) (text : List ℕ) (first second : List Entry) (log : Log) → IsSmall ring opening order text first second log
-    → (client request : ℕ) (x : AskedFor) → asked_at order client request ≡ Some x → IsRingAfter ring (before (takes client) request log) x.ring
+    → (client request : ℕ) (x : TakenRequest) → asked_at order client request ≡ Some x → IsRingAfter ring (before (takes client) request log) x.ring
 rings_by ring opening order text first second log h client request x at =
     let own = asked_own order h.own client request x at in
     subst (λ (c : ℕ). IsRingAfter ring (before (takes c) request log) x.ring) own.0
-    (each_of (λ (k : ℕ) (y : AskedFor). IsRingAfter ring (before (takes 0) k log) y.ring) order h.rings request x own.1)
+    (each_of (λ (k : ℕ) (y : TakenRequest). IsRingAfter ring (before (takes 0) k log) y.ring) order h.rings request x own.1)
 
 pub small_accounts : (losses : Losses) (ring : RingState) (opening : CacheState) (order : Order) (text : List ℕ) (first second : List Entry) (log : Log)
     → IsSmall ring opening order text first second log → Accounts losses ring opening order (first_text text) (outs_of losses order log) (two_histories first second) log
 small_accounts losses ring opening order text first second log h = record {
   asked = λ client.
       let own = asked_by order text h.read (0 == client) in
-      (own.0, ap (λ (es : Order). map (λ (x : AskedFor). x.what) es ++ own.0) (all_own client order h.own) ∙ own.1);
+      (own.0, ap (λ (es : Order). map (λ (x : TakenRequest). x.what) es ++ own.0) (all_own client order h.own) ∙ own.1);
   turns = h.turns;
   numbered = λ client. subst (λ (es : Order). AreInOrder es) (sym (all_own client order h.own)) (numbered_by order h.numbered (0 == client));
   rings = rings_by ring opening order text first second log h;

@@ -22,7 +22,7 @@ use Rattle.mc_route.specs.declared.outcomes.Outcome.{Outcome}
 use Rattle.mc_route.specs.declared.outcomes.Outcome.TheVariants.{Awaited, Lost, Reply}
 use Rattle.mc_link.specs.declared.turns.Tag.{Tag}
 use Rattle.mc_account.specs.Lookups.{command_at, outcome_at}
-use Rattle.mc_account.specs.Orders.{Entry as Asked, IsSized, Order, entries_of, taken_of}
+use Rattle.mc_account.specs.Orders.{IsSized, Order, TakenRequest, entries_of, taken_of}
 use Rattle.mc_history.specs.declared.entries.Entry.{Entry}
 use Rattle.mc_history.specs.Histories.{tag_in}
 use Rattle.mc_registers.specs.Registers.{Done, IsRun}
@@ -84,7 +84,7 @@ pub record IsLinearizable (counter : ℕ) (order : Order) (histories : ℕ → L
 pub record IsLinearizablePool (losses : Losses) (counter : ℕ) (order : Order) (texts outs : ℕ → List ℕ) (histories : ℕ → List Entry) (log : Log) : Type 0 where
   -- the requests of each client were taken as it sent them, in order, by the turns of the log; each of their commands has its outcome
   pub asked : (client : ℕ) → (untaken : List Taken) × (taken_of client order ++ untaken ≡ requests_of (texts client))
-  pub turns : map (λ (e : Asked). e.session) order ≡ turns_of log
+  pub turns : map (λ (e : TakenRequest). e.session) order ≡ turns_of log
   pub sized : All IsSized order
   -- each client was given the answers to its first requests, one for each put of the log, by the outcomes of their commands and the choice for
   -- lost commands; each request was taken before it was answered

@@ -13,7 +13,7 @@ use Rattle.mc_route.specs.declared.routes.Routed.{Routed}
 use Rattle.mc_link.specs.declared.turns.Tag.{Tag}
 use Rattle.mc_proxy.specs.Sending.{tag_of}
 use Rattle.mc_account.specs.Lookups.{asked_at, command_at, outcome_at}
-use Rattle.mc_account.specs.Orders.{Entry as AskedFor, commands_to}
+use Rattle.mc_account.specs.Orders.{TakenRequest, commands_to}
 use Rattle.mc_history.specs.declared.entries.Entry.{Entry}
 use Rattle.mc_history.specs.Histories.{HasReply, IsLegal, tag_in}
 use Rattle.mc_history.specs.Named.{tags_of}
@@ -25,7 +25,7 @@ use Rattle.mc_pool_laws.proofs.SentLemmas.{in_request}
 use Rattle.mc_pool_laws.proofs.NeedLemmas.{Follows, a_cache, after_one, asked_by, asked_only, asked_text, complete_of, first_only, first_there, flush, flush_asked, flush_text, flushed, follows_one, lives_of_first, moments_one, no_loss, numbered_one, once_in_one, one_here, one_outcome, one_server, outs_of, own_by, puts_one, serves_one, takes_one}
 use Rattle.mc_pool_laws.proofs.OrderExample.{reply_in, tag_is}
 
-abbrev replied : AskedFor
+abbrev replied : TakenRequest
 replied = asked_by one_server flush_asked (outcomes.Reply Flushed ∷ [])
 
 abbrev late_log : Log
@@ -45,7 +45,7 @@ late_reply : (tag : Tag) (place : ℕ) (atom : Atom (List ℕ)) (reply : AReply 
 late_reply tag place atom reply at became =
     let found = in_request (asked_at (replied ∷ []) tag.session tag.request) tag.atom (to_place place atom) at in
     let o = asked_only replied tag.session tag.request found.0 refl found.1 in
-    let routed = one_here (to_place 0 flush) tag.atom (to_place place atom) (ap (λ (x : AskedFor). slice_get (route_of_taken x.ring x.what) tag.atom) (sym o.2) ∙ found.2) in
+    let routed = one_here (to_place 0 flush) tag.atom (to_place place atom) (ap (λ (x : TakenRequest). slice_get (route_of_taken x.ring x.what) tag.atom) (sym o.2) ∙ found.2) in
     let there : place ≡ 0 = ap (λ (c : Routed). c.server) routed.1 in
     let asked : atom ≡ flush = ap (λ (c : Routed). c.atom) routed.1 in
     let told : reply ≡ Flushed = ap reply_in (one_outcome one_server flush_asked (outcomes.Reply Flushed) tag (outcomes.Reply reply) became) in (

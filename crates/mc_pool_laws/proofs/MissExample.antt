@@ -34,7 +34,7 @@ use Rattle.mc_link.specs.declared.turns.Tag.{Tag}
 use Rattle.mc_proxy.specs.Sending.{tag_of}
 use Rattle.mc_cache.specs.CacheState.{opening_cache}
 use Rattle.mc_account.specs.Lookups.{IsBefore, asked_at, command_at, outcome_at}
-use Rattle.mc_account.specs.Orders.{AreInOrder, Entry as AskedFor, IsSized, Order, is_complete}
+use Rattle.mc_account.specs.Orders.{AreInOrder, IsSized, Order, TakenRequest, is_complete}
 use Rattle.mc_world.specs.declared.events.Event.TheVariants.{ServerTurn}
 use Rattle.mc_world.specs.Accounts.{Account, Accounts, IsToldLost, NotAnswered, WasTaken}
 use Rattle.mc_world.specs.Logs.{IsRingAfter, Log, before, number_of, puts, serves, takes}
@@ -92,16 +92,16 @@ abbrev text_of : ℕ → List ℕ
 text_of client = if 0 == client then a_text else []
 
 -- the requests that were taken: the second command was lost
-abbrev asked_as : ℕ → Taken → Outcome → AskedFor
+abbrev asked_as : ℕ → Taken → Outcome → TakenRequest
 asked_as request what outcome = record { session = 0; request = request; what = what; ring = one_server; losses = Missed; outcomes = outcome ∷ [] }
 
-abbrev first : AskedFor
+abbrev first : TakenRequest
 first = asked_as 0 set_asked (outcomes.Reply Stored)
 
-abbrev second : AskedFor
+abbrev second : TakenRequest
 second = asked_as 1 get_asked outcomes.Lost
 
-abbrev third : AskedFor
+abbrev third : TakenRequest
 third = asked_as 2 get_asked (outcomes.Reply a_hit)
 
 abbrev three : Order
@@ -145,20 +145,20 @@ many v =
     if v then suc (if v then suc (if v then suc 0 else 0) else (if v then suc 0 else 0))
     else (if v then suc (if v then suc 0 else 0) else (if v then suc 0 else 0))
 
-mine_by : (v : Bool) (k : ℕ) (x : AskedFor) → slice_get (mine v) k ≡ Some x → (v ≡ true) × (slice_get three k ≡ Some x)
+mine_by : (v : Bool) (k : ℕ) (x : TakenRequest) → slice_get (mine v) k ≡ Some x → (v ≡ true) × (slice_get three k ≡ Some x)
 mine_by true k x at = (refl, at)
 mine_by false k x at = absurd (none_there k x at)
 
 -- which of the three it is
-abbrev IsOne : ℕ → AskedFor → Type 0
+abbrev IsOne : ℕ → TakenRequest → Type 0
 IsOne request x = ((request ≡ 0) × (x ≡ first)) ⊎ (((request ≡ 1) × (x ≡ second)) ⊎ ((request ≡ 2) × (x ≡ third)))
 
-asked_three : (client request : ℕ) (x : AskedFor) → asked_at three client request ≡ Some x → (0 ≡ client) × IsOne request x
+asked_three : (client request : ℕ) (x : TakenRequest) → asked_at three client request ≡ Some x → (0 ≡ client) × IsOne request x
 asked_three client request x at =
     let own = mine_by (0 == client) request x at in
     (own_by client own.0, in_three first second third request x own.1)
 
-asked_text : (v : Bool) → (untaken : List Taken) × (map (λ (e : AskedFor). e.what) (mine v) ++ untaken ≡ requests_of (if v then a_text else []))
+asked_text : (v : Bool) → (untaken : List Taken) × (map (λ (e : TakenRequest). e.what) (mine v) ++ untaken ≡ requests_of (if v then a_text else []))
 asked_text true = ([], sym text_read)
 asked_text false = ([], sym nothing_read)
 
@@ -192,22 +192,22 @@ after_three client request early =
     ])
 
 -- each is routed by the ring, which stays
-abbrev IsRouted : ℕ → ℕ → AskedFor → Type 0
+abbrev IsRouted : ℕ → ℕ → TakenRequest → Type 0
 IsRouted client request x = IsRingAfter one_server (before (takes client) request three_log) x.ring
 
-rings_by : (client request : ℕ) (x : AskedFor) → asked_at three client request ≡ Some x → IsRouted client request x
+rings_by : (client request : ℕ) (x : TakenRequest) → asked_at three client request ≡ Some x → IsRouted client request x
 rings_by client request x at =
     let o = asked_three client request x at in
     subst (λ (c : ℕ). IsRouted c request x) o.0 (elim o.1 [
-      | inl h ↦ subst (λ (n : ℕ). IsRouted 0 n x) (sym h.0) (subst (λ (y : AskedFor). IsRouted 0 0 y) (sym h.1) refl)
+      | inl h ↦ subst (λ (n : ℕ). IsRouted 0 n x) (sym h.0) (subst (λ (y : TakenRequest). IsRouted 0 0 y) (sym h.1) refl)
       | inr later ↦ (elim later [
-        | inl h ↦ subst (λ (n : ℕ). IsRouted 0 n x) (sym h.0) (subst (λ (y : AskedFor). IsRouted 0 1 y) (sym h.1) refl)
-        | inr h ↦ subst (λ (n : ℕ). IsRouted 0 n x) (sym h.0) (subst (λ (y : AskedFor). IsRouted 0 2 y) (sym h.1) refl)
+        | inl h ↦ subst (λ (n : ℕ). IsRouted 0 n x) (sym h.0) (subst (λ (y : TakenRequest). IsRouted 0 1 y) (sym h.1) refl)
+        | inr h ↦ subst (λ (n : ℕ). IsRouted 0 n x) (sym h.0) (subst (λ (y : TakenRequest). IsRouted 0 2 y) (sym h.1) refl)
       ])
     ])
 
 -- the one command of each, and its outcome
-pub commands_of : (x : AskedFor) (atom : Atom (List ℕ)) (k : ℕ) (command : Routed) → route_of_taken x.ring x.what ≡ to_owner one_server key atom ∷ []
+pub commands_of : (x : TakenRequest) (atom : Atom (List ℕ)) (k : ℕ) (command : Routed) → route_of_taken x.ring x.what ≡ to_owner one_server key atom ∷ []
     → slice_get (route_of_taken x.ring x.what) k ≡ Some command → (k ≡ 0) × (command ≡ to_place 0 atom)
 commands_of x atom k command is at =
     let here = one_here (to_owner one_server key atom) k command (ap (λ (cs : List Routed). slice_get cs k) (sym is) ∙ at) in
@@ -221,14 +221,14 @@ abbrev reply_in : Outcome → AReply (List ℕ)
 reply_in (outcomes.Reply reply) = reply
 reply_in other = Miss
 
-pub outcome_of : (x y : AskedFor) (outcome q : Outcome) (k : ℕ) → x ≡ y → y.outcomes ≡ outcome ∷ [] → slice_get x.outcomes k ≡ Some q → q ≡ outcome
+pub outcome_of : (x y : TakenRequest) (outcome q : Outcome) (k : ℕ) → x ≡ y → y.outcomes ≡ outcome ∷ [] → slice_get x.outcomes k ≡ Some q → q ≡ outcome
 outcome_of x y outcome q k same is at =
-    (one_here outcome k q (ap (λ (os : List Outcome). slice_get os k) (sym (ap (λ (z : AskedFor). z.outcomes) same ∙ is)) ∙ at)).1
+    (one_here outcome k q (ap (λ (os : List Outcome). slice_get os k) (sym (ap (λ (z : TakenRequest). z.outcomes) same ∙ is)) ∙ at)).1
 
 -- the request of a tag, its command and its outcome
 record Known (tag : Tag) (place : ℕ) (atom : Atom (List ℕ)) (outcome : Outcome) : Type 0 where
   pub own : 0 ≡ tag.session
-  pub asked : AskedFor
+  pub asked : TakenRequest
   pub which : IsOne tag.request asked
   pub command : slice_get (route_of_taken asked.ring asked.what) tag.atom ≡ Some (to_place place atom)
   pub became : slice_get asked.outcomes tag.atom ≡ Some outcome
@@ -245,7 +245,7 @@ known tag place atom outcome at became =
       asked = asked.0;
       which = o.1;
       command = asked.2;
-      became = ap (λ (x : AskedFor). slice_get x.outcomes tag.atom) (sym same) ∙ told.2;
+      became = ap (λ (x : TakenRequest). slice_get x.outcomes tag.atom) (sym same) ∙ told.2;
     }
 
 tag_is : (tag : Tag) (request : ℕ) → 0 ≡ tag.session → tag.request ≡ request → tag.atom ≡ 0 → tag_of 0 request 0 ≡ tag
@@ -273,12 +273,12 @@ replied_by tag place atom reply at became =
     let k = known tag place atom (outcomes.Reply reply) at became in
     elim k.which [
       | inl h ↦ entry_as taken_two tag place 0 0 stored set_key Stored atom reply refl k.own h.0 refl refl
-          (commands_of k.asked set_key tag.atom (to_place place atom) (ap (λ (x : AskedFor). route_of_taken x.ring x.what) h.1) k.command)
+          (commands_of k.asked set_key tag.atom (to_place place atom) (ap (λ (x : TakenRequest). route_of_taken x.ring x.what) h.1) k.command)
           (outcome_of k.asked first (outcomes.Reply Stored) (outcomes.Reply reply) tag.atom h.1 refl k.became)
       | inr later ↦ (elim later [
         | inl h ↦ absurd (false≢true (ap is_lost (outcome_of k.asked second outcomes.Lost (outcomes.Reply reply) tag.atom h.1 refl k.became)))
         | inr h ↦ entry_as taken_two tag place 2 1 found get_key a_hit atom reply refl k.own h.0 refl refl
-            (commands_of k.asked get_key tag.atom (to_place place atom) (ap (λ (x : AskedFor). route_of_taken x.ring x.what) h.1) k.command)
+            (commands_of k.asked get_key tag.atom (to_place place atom) (ap (λ (x : TakenRequest). route_of_taken x.ring x.what) h.1) k.command)
             (outcome_of k.asked third (outcomes.Reply a_hit) (outcomes.Reply reply) tag.atom h.1 refl k.became)
       ])
     ]
@@ -302,7 +302,7 @@ lost_by tag place atom at became =
       | inl h ↦ absurd (true≢false (ap is_lost (outcome_of k.asked first (outcomes.Reply Stored) outcomes.Lost tag.atom h.1 refl k.became)))
       | inr later ↦ (elim later [
         | inl h ↦
-            let command = commands_of k.asked get_key tag.atom (to_place place atom) (ap (λ (x : AskedFor). route_of_taken x.ring x.what) h.1) k.command in
+            let command = commands_of k.asked get_key tag.atom (to_place place atom) (ap (λ (x : TakenRequest). route_of_taken x.ring x.what) h.1) k.command in
             let there : place ≡ 0 = ap (λ (c : Routed). c.server) command.1 in
             subst (λ (p : ℕ). IsNotSent p tag) (sym there)
             (subst (λ (t : Tag). IsNotSent 0 t) (tag_is tag 1 k.own h.0 command.0) (inl (refl, never_sent (tag_of 0 1 0) refl)))

@@ -32,7 +32,7 @@ use Rattle.mc_proxy.specs.Sending.{tag_of}
 use Rattle.mc_cache.specs.CacheState.{CacheState, opening_cache}
 use Rattle.mc_cache.specs.Step.{step_of}
 use Rattle.mc_account.specs.Lookups.{asked_at, command_at, outcome_at, outcome_in}
-use Rattle.mc_account.specs.Orders.{AreInOrder, Entry as AskedFor, IsSized, Order, Tagged, commands_to, entries_of, is_complete, taken_of}
+use Rattle.mc_account.specs.Orders.{AreInOrder, IsSized, Order, Tagged, TakenRequest, commands_to, entries_of, is_complete, taken_of}
 use Rattle.mc_history.specs.declared.entries.Entry.{Entry}
 use Rattle.mc_history.specs.Histories.{IsLegal, tag_in}
 use Rattle.mc_history.specs.Named.{tags_of}
@@ -99,7 +99,7 @@ unfolding requests_of requests_within
 nothing_read = refl
 
 -- the order of one request
-abbrev pub asked_by : RingState → Taken → List Outcome → AskedFor
+abbrev pub asked_by : RingState → Taken → List Outcome → TakenRequest
 asked_by ring what told = record { session = 0; request = 0; what = what; ring = ring; losses = Told; outcomes = told }
 
 -- the element of a list of one
@@ -128,7 +128,7 @@ there_by false xs k y at = absurd (none_there k y at)
 pub own_by : (number : ℕ) → (0 == number) ≡ true → 0 ≡ number
 own_by number h = grind (arith, false≢true, eqb_tells)
 
-pub asked_only : (e : AskedFor) (client request : ℕ) (x : AskedFor) → e.session ≡ 0 → asked_at (e ∷ []) client request ≡ Some x → (0 ≡ client) × (request ≡ 0) × (x ≡ e)
+pub asked_only : (e : TakenRequest) (client request : ℕ) (x : TakenRequest) → e.session ≡ 0 → asked_at (e ∷ []) client request ≡ Some x → (0 ≡ client) × (request ≡ 0) × (x ≡ e)
 asked_only e client request x own at = grind (arith, one_here, there_by, own_by)
 
 -- the history of the first server alone
@@ -152,7 +152,7 @@ first_there es place k e at = grind (arith, there_by, own_by)
 -- the counts of the log of one request, and the request
 pub asked_text : (client : ℕ) (told : List Outcome) (ring : RingState) → (untaken : List Taken) × (taken_of client (asked_by ring flush_asked told ∷ []) ++ untaken ≡ requests_of (flush_text client))
 asked_text client told ring =
-    (elim (0 == client) as (λ v. (untaken : List Taken) × (map (λ (e : AskedFor). e.what) (if v then asked_by ring flush_asked told ∷ [] else []) ++ untaken ≡ requests_of (codes "flush_all\r\n"))) [
+    (elim (0 == client) as (λ v. (untaken : List Taken) × (map (λ (e : TakenRequest). e.what) (if v then asked_by ring flush_asked told ∷ [] else []) ++ untaken ≡ requests_of (codes "flush_all\r\n"))) [
       | true ↦ ([], sym text_read)
       | false ↦ (requests_of (codes "flush_all\r\n"), refl)
     ])
@@ -161,7 +161,7 @@ pub one_of : {X : Type 0} (v : Bool) (x : X) → length (if v then x ∷ [] else
 one_of true x = refl
 one_of false x = refl
 
-pub complete_of : (v : Bool) (e : AskedFor) → is_complete e ≡ true → list_all is_complete (take (if v then suc 0 else 0) (if v then e ∷ [] else [])) ≡ true
+pub complete_of : (v : Bool) (e : TakenRequest) → is_complete e ≡ true → list_all is_complete (take (if v then suc 0 else 0) (if v then e ∷ [] else [])) ≡ true
 complete_of true e known = ap (λ (b : Bool). b && true) known
 complete_of false e known = refl
 
@@ -178,7 +178,7 @@ after_one log count first client request early =
     (subst (λ (n : ℕ). n < number_of (takes 0) (before (puts 0) n log)) (sym own.1) first)
 
 -- its number
-pub numbered_one : (v : Bool) (e : AskedFor) → e.request ≡ 0 → AreInOrder (if v then e ∷ [] else [])
+pub numbered_one : (v : Bool) (e : TakenRequest) → e.request ≡ 0 → AreInOrder (if v then e ∷ [] else [])
 numbered_one true e first = ap (λ (n : ℕ). n ∷ []) first
 numbered_one false e first = refl
 
@@ -195,11 +195,11 @@ follows_lost true es tags none = absurd (omega (arith, none))
 follows_lost false es tags none = (tags, refl)
 
 -- the outcomes of the commands of one request
-pub outcome_in_request : (o : Option AskedFor) (atom : ℕ) (q : Outcome) → outcome_in o atom ≡ Some q → (e : AskedFor) × (o ≡ Some e) × (slice_get e.outcomes atom ≡ Some q)
+pub outcome_in_request : (o : Option TakenRequest) (atom : ℕ) (q : Outcome) → outcome_in o atom ≡ Some q → (e : TakenRequest) × (o ≡ Some e) × (slice_get e.outcomes atom ≡ Some q)
 outcome_in_request None atom q h = absurd (none-some q h)
 outcome_in_request (Some e) atom q h = (e, refl, h)
 
-outcome_there : (e : AskedFor) (tag : Tag) (q : Outcome) → e.session ≡ 0 → outcome_at (e ∷ []) tag ≡ Some q → slice_get e.outcomes tag.atom ≡ Some q
+outcome_there : (e : TakenRequest) (tag : Tag) (q : Outcome) → e.session ≡ 0 → outcome_at (e ∷ []) tag ≡ Some q → slice_get e.outcomes tag.atom ≡ Some q
 outcome_there e tag q own became = grind (arith, slice_get, asked_only, outcome_in_request)
 
 no_outcome : (ring : RingState) (what : Taken) (tag : Tag) (q : Outcome) → outcome_at (asked_by ring what [] ∷ []) tag ≡ Some q → ⊥
@@ -469,7 +469,7 @@ none_out losses (e ∷ es) zero none = refl
 none_out losses (e ∷ es) (suc n) none = absurd (omega (arith, none))
 
 served_but : (one : Clause) (losses : Losses) (es : List Entry) (log : Log)
-    → map (λ (e : AskedFor). e.session) awaited ≡ turns_of log
+    → map (λ (e : TakenRequest). e.session) awaited ≡ turns_of log
     → IsRingAfter one_server (before (takes 0) 0 log) one_server
     → (one ≢ Legal → IsLegal awaited 0 a_cache es)
     → (one ≢ Once → (j k : ℕ) (d e : Entry) → slice_get es j ≡ Some d → slice_get es k ≡ Some e → j ≡ k)
@@ -489,7 +489,7 @@ served_but one losses es log turns ring legal once followed none never moments p
           let o = asked_only e client request x refl at in
           subst (λ (c : ℕ). IsRingAfter one_server (before (takes c) request log) x.ring) o.0
           (subst (λ (r : ℕ). IsRingAfter one_server (before (takes 0) r log) x.ring) (sym o.1)
-          (subst (λ (y : AskedFor). IsRingAfter one_server (before (takes 0) 0 log) y.ring) (sym o.2) ring));
+          (subst (λ (y : TakenRequest). IsRingAfter one_server (before (takes 0) 0 log) y.ring) (sym o.2) ring));
       sized = λ keeps. All-cons IsSized e [] refl (All-nil IsSized);
       legal = λ keeps. lives_of_first awaited a_cache es log never (legal keeps);
       once = λ keeps r s j k d x at also same.

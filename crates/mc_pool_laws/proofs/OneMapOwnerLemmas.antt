@@ -12,7 +12,7 @@ use Rattle.mc_link.specs.declared.turns.Tag.{Tag}
 use Rattle.mc_cache.specs.CacheState.{CacheState}
 use Rattle.mc_cache.specs.Step.{atom_key}
 use Rattle.mc_account.specs.Lookups.{asked_at, command_at, command_in}
-use Rattle.mc_account.specs.Orders.{Entry as Asked, Order, entries_of, taken_of}
+use Rattle.mc_account.specs.Orders.{Order, TakenRequest, entries_of, taken_of}
 use Rattle.mc_history.specs.declared.entries.Entry.{Entry}
 use Rattle.mc_world.specs.Accounts.{Accounts}
 use Rattle.mc_world.specs.declared.logs.Logged.TheVariants.{Happened, Joined, Restarted}
@@ -31,14 +31,14 @@ ring-stays ring now (Joined server address ∷ es) none h = absurd (omega (arith
 ring-stays ring now (Restarted server ∷ es) none h = ring-stays ring now es none h
 
 -- a command that a look-up finds is one of a request that it finds
-in-request : (o : Option Asked) (atom : ℕ) (command : Routed) → command_in o atom ≡ Some command
-    → (e : Asked) × (o ≡ Some e) × (slice_get (route_of_taken e.ring e.what) atom ≡ Some command)
+in-request : (o : Option TakenRequest) (atom : ℕ) (command : Routed) → command_in o atom ≡ Some command
+    → (e : TakenRequest) × (o ≡ Some e) × (slice_get (route_of_taken e.ring e.what) atom ≡ Some command)
 in-request None atom command h = absurd (none-some command h)
 in-request (Some e) atom command h = (e, refl, h)
 
 -- a request of an account was routed by the ring of the opening, if no server joins
 ring_is : (losses : Losses) (ring : RingState) (opening : CacheState) (order : Order) (texts outs : ℕ → List ℕ) (histories : ℕ → List Entry) (log : Log)
-    → Accounts losses ring opening order texts outs histories log → number_of joins log ≡ 0 → (client request : ℕ) (e : Asked) → asked_at order client request ≡ Some e
+    → Accounts losses ring opening order texts outs histories log → number_of joins log ≡ 0 → (client request : ℕ) (e : TakenRequest) → asked_at order client request ≡ Some e
     → e.ring ≡ ring
 ring_is losses ring opening order texts outs histories log h none client request e at = grind (arith, number-before, ring-stays)
 
@@ -60,7 +60,7 @@ command_is_sent losses ring opening order texts outs histories log h none tag co
     let asked = h.asked tag.session in
     let sent : slice_get (requests_of (texts tag.session)) tag.request ≡ Some found.0.what =
     ap (λ (ts : List Taken). slice_get ts tag.request) (sym asked.1)
-    ∙ got_there (taken_of tag.session order) asked.0 tag.request found.0.what (got_map (λ (x : Asked). x.what) (entries_of tag.session order) tag.request found.0 found.1) in
+    ∙ got_there (taken_of tag.session order) asked.0 tag.request found.0.what (got_map (λ (x : TakenRequest). x.what) (entries_of tag.session order) tag.request found.0 found.1) in
     ap (λ (o : Option Taken). command_sent ring o tag.atom) sent
     ∙ ap (λ (r : RingState). slice_get (route_of_taken r found.0.what) tag.atom)
     (sym (ring_is losses ring opening order texts outs histories log h none tag.session tag.request found.0 found.1))

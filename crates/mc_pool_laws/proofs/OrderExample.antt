@@ -22,7 +22,7 @@ use Rattle.mc_route.specs.declared.routes.Routed.{Routed}
 use Rattle.mc_link.specs.declared.turns.Tag.{Tag}
 use Rattle.mc_proxy.specs.Sending.{tag_of}
 use Rattle.mc_account.specs.Lookups.{IsBefore, asked_at, command_at, outcome_at}
-use Rattle.mc_account.specs.Orders.{AreInOrder, Entry as AskedFor, Order, is_complete}
+use Rattle.mc_account.specs.Orders.{AreInOrder, Order, TakenRequest, is_complete}
 use Rattle.mc_history.specs.declared.entries.Entry.{Entry}
 use Rattle.mc_history.specs.Histories.{HasReply, IsLegal, tag_in}
 use Rattle.mc_world.specs.Accounts.{NotAnswered, WasTaken}
@@ -39,10 +39,10 @@ pub two_read : requests_of (codes "flush_all\r\nflush_all\r\n") ≡ flush_asked 
 unfolding words line_end first_line name_of next_request requests_within requests_of
 two_read = refl
 
-abbrev first_asked : AskedFor
+abbrev first_asked : TakenRequest
 first_asked = asked_by one_server flush_asked (outcomes.Reply Flushed ∷ [])
 
-abbrev second_asked : AskedFor
+abbrev second_asked : TakenRequest
 second_asked = record { session = 0; request = 1; what = flush_asked; ring = one_server; losses = Told; outcomes = outcomes.Reply Flushed ∷ [] }
 
 abbrev two_asked : Order
@@ -70,15 +70,15 @@ mine v = if v then first_asked ∷ (if v then second_asked ∷ [] else []) else 
 abbrev many : Bool → ℕ
 many v = if v then suc (if v then suc 0 else 0) else (if v then suc 0 else 0)
 
-mine_by : (v : Bool) (k : ℕ) (x : AskedFor) → slice_get (mine v) k ≡ Some x → (v ≡ true) × (slice_get two_asked k ≡ Some x)
+mine_by : (v : Bool) (k : ℕ) (x : TakenRequest) → slice_get (mine v) k ≡ Some x → (v ≡ true) × (slice_get two_asked k ≡ Some x)
 mine_by true k x at = (refl, at)
 mine_by false k x at = absurd (none_there k x at)
 
-asked_two : (client request : ℕ) (x : AskedFor) → asked_at two_asked client request ≡ Some x
+asked_two : (client request : ℕ) (x : TakenRequest) → asked_at two_asked client request ≡ Some x
     → (0 ≡ client) × (((request ≡ 0) × (x ≡ first_asked)) ⊎ ((request ≡ 1) × (x ≡ second_asked)))
 asked_two client request x at = grind (arith, own_by, two_here, mine_by)
 
-text_by : (v : Bool) → (untaken : List Taken) × (map (λ (e : AskedFor). e.what) (mine v) ++ untaken ≡ requests_of (codes "flush_all\r\nflush_all\r\n"))
+text_by : (v : Bool) → (untaken : List Taken) × (map (λ (e : TakenRequest). e.what) (mine v) ++ untaken ≡ requests_of (codes "flush_all\r\nflush_all\r\n"))
 text_by true = ([], sym two_read)
 text_by false = (requests_of (codes "flush_all\r\nflush_all\r\n"), refl)
 
@@ -116,13 +116,13 @@ moments_by : (v : Bool) → map (λ (e : Entry). e.moment) (if v then turned els
 moments_by true = refl
 moments_by false = refl
 
-rings_by : (client request : ℕ) (x : AskedFor) → asked_at two_asked client request ≡ Some x → IsRingAfter one_server (before (takes client) request two_log) x.ring
+rings_by : (client request : ℕ) (x : TakenRequest) → asked_at two_asked client request ≡ Some x → IsRingAfter one_server (before (takes client) request two_log) x.ring
 rings_by client request x at = grind (arith, one_server, asked_two)
 
 -- each command of it is a flush at the first server, and its reply says that it was flushed
-outcomes_by : (x : AskedFor) (request : ℕ) → ((request ≡ 0) × (x ≡ first_asked)) ⊎ ((request ≡ 1) × (x ≡ second_asked)) → x.outcomes ≡ outcomes.Reply Flushed ∷ []
-outcomes_by x request (inl h) = ap (λ (y : AskedFor). y.outcomes) h.1
-outcomes_by x request (inr h) = ap (λ (y : AskedFor). y.outcomes) h.1
+outcomes_by : (x : TakenRequest) (request : ℕ) → ((request ≡ 0) × (x ≡ first_asked)) ⊎ ((request ≡ 1) × (x ≡ second_asked)) → x.outcomes ≡ outcomes.Reply Flushed ∷ []
+outcomes_by x request (inl h) = ap (λ (y : TakenRequest). y.outcomes) h.1
+outcomes_by x request (inr h) = ap (λ (y : TakenRequest). y.outcomes) h.1
 
 two_outcome : (tag : Tag) (q : Outcome) → outcome_at two_asked tag ≡ Some q → q ≡ outcomes.Reply Flushed
 two_outcome tag q became = grind (arith, slice_get, one_here, outcome_in_request, asked_two, outcomes_by)
@@ -135,12 +135,12 @@ reply_in outcomes.Awaited = Flushed
 pub tag_is : (tag : Tag) (request : ℕ) → 0 ≡ tag.session → tag.request ≡ request → tag.atom ≡ 0 → tag_of 0 request 0 ≡ tag
 tag_is tag request s r a = ap (λ (session : ℕ). tag_of session request 0) s ∙ ap₂ (λ (n m : ℕ). tag_of tag.session n m) (sym r) (sym a)
 
-routed_by : (x : AskedFor) (request : ℕ) (atom : ℕ) (command : Routed) → ((request ≡ 0) × (x ≡ first_asked)) ⊎ ((request ≡ 1) × (x ≡ second_asked))
+routed_by : (x : TakenRequest) (request : ℕ) (atom : ℕ) (command : Routed) → ((request ≡ 0) × (x ≡ first_asked)) ⊎ ((request ≡ 1) × (x ≡ second_asked))
     → slice_get (route_of_taken x.ring x.what) atom ≡ Some command → (atom ≡ 0) × (command ≡ to_place 0 flush)
 routed_by x request atom command (inl h) at =
-    one_here (to_place 0 flush) atom command (ap (λ (y : AskedFor). slice_get (route_of_taken y.ring y.what) atom) (sym h.1) ∙ at)
+    one_here (to_place 0 flush) atom command (ap (λ (y : TakenRequest). slice_get (route_of_taken y.ring y.what) atom) (sym h.1) ∙ at)
 routed_by x request atom command (inr h) at =
-    one_here (to_place 0 flush) atom command (ap (λ (y : AskedFor). slice_get (route_of_taken y.ring y.what) atom) (sym h.1) ∙ at)
+    one_here (to_place 0 flush) atom command (ap (λ (y : TakenRequest). slice_get (route_of_taken y.ring y.what) atom) (sym h.1) ∙ at)
 
 has_entry : (tag : Tag) (place request k : ℕ) (x : Entry) (atom : Atom (List ℕ)) (reply : AReply (List ℕ)) → slice_get turned k ≡ Some x → tag_of 0 request 0 ≡ tag
     → place ≡ 0 → atom ≡ flush → reply ≡ Flushed → tag_in x ≡ tag_of 0 request 0 → x.reply ≡ spelling_of flush Flushed

@@ -8,7 +8,7 @@ use Rattle.mc_route.specs.declared.losses.Losses.{Losses}
 use Rattle.mc_route.specs.Routes.{route_of_taken}
 use Rattle.mc_cache.specs.CacheState.{CacheState}
 use Rattle.mc_account.specs.Lookups.{asked_at}
-use Rattle.mc_account.specs.Orders.{AreInOrder, Entry as Asked, Order, Tagged, commands_from, commands_in, commands_to, entries_of, numbers_from}
+use Rattle.mc_account.specs.Orders.{AreInOrder, Order, Tagged, TakenRequest, commands_from, commands_in, commands_to, entries_of, numbers_from}
 use Rattle.mc_account.proofs.LookupLemmas.{get_after}
 use Rattle.mc_account.proofs.OpenSessions.{own_number}
 use Rattle.mc_account.proofs.OrderLemmas.{entries-append, numbered_after}
@@ -28,21 +28,22 @@ use Rattle.mc_pool_laws.proofs.SentLemmas.{entry_taken}
 record IsPart (order front back : Order) (log done es : Log) : Type 0 where
   pub order_is : order ≡ front ++ back
   pub log_is : log ≡ done ++ es
-  pub front_turns : map (λ (e : Asked). e.session) front ≡ turns_of done
-  pub back_turns : map (λ (e : Asked). e.session) back ≡ turns_of es
+  pub front_turns : map (λ (e : TakenRequest). e.session) front ≡ turns_of done
+  pub back_turns : map (λ (e : TakenRequest). e.session) back ≡ turns_of es
 
 -- the part after the next event
-after_turn : (order front back : Order) (log done es : Log) (e : Asked) (client : ℕ) → IsPart order front (e ∷ back) log done (Happened (ProxyTurn client) ∷ es)
+after_turn : (order front back : Order) (log done es : Log) (e : TakenRequest) (client : ℕ)
+    → IsPart order front (e ∷ back) log done (Happened (ProxyTurn client) ∷ es)
     → (e.session ≡ client) × IsPart order (front ++ e ∷ []) back log (done ++ Happened (ProxyTurn client) ∷ []) es
 after_turn order front back log done es e client h =
-    let turns : e.session ∷ map (λ (x : Asked). x.session) back ≡ client ∷ turns_of es = h.back_turns in
+    let turns : e.session ∷ map (λ (x : TakenRequest). x.session) back ≡ client ∷ turns_of es = h.back_turns in
     let own : e.session ≡ client = cc in
-    let rest : map (λ (x : Asked). x.session) back ≡ turns_of es = cc in (
+    let rest : map (λ (x : TakenRequest). x.session) back ≡ turns_of es = cc in (
       own,
       record {
         order_is = h.order_is ∙ sym (append_assoc front (e ∷ []) back);
         log_is = h.log_is ∙ sym (append_assoc done (Happened (ProxyTurn client) ∷ []) es);
-        front_turns = map-append (λ (x : Asked). x.session) front (e ∷ []) ∙ ap₂ (λ (cs : List ℕ) (c : ℕ). cs ++ c ∷ []) h.front_turns own ∙ sym (turns-push done (Happened (ProxyTurn client)));
+        front_turns = map-append (λ (x : TakenRequest). x.session) front (e ∷ []) ∙ ap₂ (λ (cs : List ℕ) (c : ℕ). cs ++ c ∷ []) h.front_turns own ∙ sym (turns-push done (Happened (ProxyTurn client)));
         back_turns = rest;
       },
     )
@@ -58,7 +59,7 @@ after_other order front back log done es x none h = record {
 
 -- a turn takes the client's next request, and sends its commands
 taken_next : (losses : Losses) (ring : RingState) (opening : CacheState) (order : Order) (texts outs : ℕ → List ℕ) (histories : ℕ → List Entry) (log : Log)
-    → Accounts losses ring opening order texts outs histories log → (place : ℕ) (front back : Order) (done es : Log) (e : Asked) (client : ℕ)
+    → Accounts losses ring opening order texts outs histories log → (place : ℕ) (front back : Order) (done es : Log) (e : TakenRequest) (client : ℕ)
     → IsPart order front (e ∷ back) log done (Happened (ProxyTurn client) ∷ es) → e.session ≡ client → TakesNext ring texts place done client (commands_in place e)
 taken_next losses ring opening order texts outs histories log h place front back done es e client part own =
     let is_own : (e.session == client) ≡ true = rw own (own_number client) in
@@ -71,7 +72,7 @@ taken_next losses ring opening order texts outs histories log h place front back
     let taken = entry_taken losses ring opening order texts outs histories log h client (number_of (takes client) done) e at in
     let there : before (takes client) (number_of (takes client) done) log ≡ done =
     ap (λ (l : Log). before (takes client) (number_of (takes client) done) l) part.log_is ∙ before-here (takes client) done (Happened (ProxyTurn client)) es (own_number client) in
-    let numbers : e.request ∷ map (λ (x : Asked). x.request) (entries_of client back)
+    let numbers : e.request ∷ map (λ (x : TakenRequest). x.request) (entries_of client back)
     ≡ (0 + length (entries_of client front)) ∷ numbers_from (suc (0 + length (entries_of client front))) (entries_of client back) =
     numbered_after 0 (entries_of client front) (e ∷ entries_of client back) (subst (λ (xs : Order). AreInOrder xs) all (h.numbered client)) in
     let first : e.request ≡ 0 + length (entries_of client front) = cc in
@@ -90,7 +91,7 @@ sent_by : (losses : Losses) (ring : RingState) (opening : CacheState) (order : O
     → AreSentBy ring texts place done es (commands_to place back)
 sent_by losses ring opening order texts outs histories log h place front [] done [] part = refl
 sent_by losses ring opening order texts outs histories log h place front (e ∷ back) done [] part =
-    let clash : e.session ∷ map (λ (x : Asked). x.session) back ≡ [] = part.back_turns in absurd cc
+    let clash : e.session ∷ map (λ (x : TakenRequest). x.session) back ≡ [] = part.back_turns in absurd cc
 sent_by losses ring opening order texts outs histories log h place front [] done (Happened (ProxyTurn client) ∷ es) part =
     let clash : [] ≡ client ∷ turns_of es = part.back_turns in absurd cc
 sent_by losses ring opening order texts outs histories log h place front (e ∷ back) done (Happened (ProxyTurn client) ∷ es) part =

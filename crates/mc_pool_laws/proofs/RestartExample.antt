@@ -26,7 +26,7 @@ use Rattle.mc_link.specs.declared.turns.Tag.{Tag}
 use Rattle.mc_cache.specs.CacheState.{opening_cache}
 use Rattle.mc_cache.specs.Step.{step_of}
 use Rattle.mc_account.specs.Lookups.{IsBefore, asked_at, command_at, outcome_at}
-use Rattle.mc_account.specs.Orders.{AreInOrder, Entry as AskedFor, IsSized, Order, is_complete}
+use Rattle.mc_account.specs.Orders.{AreInOrder, IsSized, Order, TakenRequest, is_complete}
 use Rattle.mc_world.specs.declared.events.Event.TheVariants.{ServerTurn}
 use Rattle.mc_world.specs.Accounts.{Account, Accounts, IsToldLost, NotAnswered, WasTaken}
 use Rattle.mc_world.specs.Logs.{IsRingAfter, Log, before, in_life, number_of, puts, serves, taken_before, takes}
@@ -48,14 +48,14 @@ unfolding words line_end first_line name_of next_request requests_within request
 text_read = refl
 
 -- the requests that were taken, and their replies
-abbrev asked_as : ℕ → Taken → AReply (List ℕ) → AskedFor
+abbrev asked_as : ℕ → Taken → AReply (List ℕ) → TakenRequest
 asked_as request what reply =
     record { session = 0; request = request; what = what; ring = one_server; losses = Told; outcomes = outcomes.Reply reply ∷ [] }
 
-abbrev first : AskedFor
+abbrev first : TakenRequest
 first = asked_as 0 set_asked Stored
 
-abbrev second : AskedFor
+abbrev second : TakenRequest
 second = asked_as 1 get_asked Miss
 
 abbrev pub restart_order : Order
@@ -79,20 +79,20 @@ mine v = if v then first ∷ (if v then second ∷ [] else []) else (if v then s
 abbrev many : Bool → ℕ
 many v = if v then suc (if v then suc 0 else 0) else (if v then suc 0 else 0)
 
-mine_by : (v : Bool) (k : ℕ) (x : AskedFor) → slice_get (mine v) k ≡ Some x → (v ≡ true) × (slice_get restart_order k ≡ Some x)
+mine_by : (v : Bool) (k : ℕ) (x : TakenRequest) → slice_get (mine v) k ≡ Some x → (v ≡ true) × (slice_get restart_order k ≡ Some x)
 mine_by true k x at = (refl, at)
 mine_by false k x at = absurd (none_there k x at)
 
 -- which of the two it is
-abbrev IsOne : ℕ → AskedFor → Type 0
+abbrev IsOne : ℕ → TakenRequest → Type 0
 IsOne request x = ((request ≡ 0) × (x ≡ first)) ⊎ ((request ≡ 1) × (x ≡ second))
 
-asked_two : (client request : ℕ) (x : AskedFor) → asked_at restart_order client request ≡ Some x → (0 ≡ client) × IsOne request x
+asked_two : (client request : ℕ) (x : TakenRequest) → asked_at restart_order client request ≡ Some x → (0 ≡ client) × IsOne request x
 asked_two client request x at =
     let own = mine_by (0 == client) request x at in
     (own_by client own.0, in_two first second request x own.1)
 
-asked_text : (v : Bool) → (untaken : List Taken) × (map (λ (e : AskedFor). e.what) (mine v) ++ untaken
+asked_text : (v : Bool) → (untaken : List Taken) × (map (λ (e : TakenRequest). e.what) (mine v) ++ untaken
     ≡ requests_of (if v then codes "set k 0 0 1\r\nv\r\nget k\r\n" else []))
 asked_text true = ([], sym text_read)
 asked_text false = ([], sym nothing_read)
@@ -123,21 +123,21 @@ after_two client request early =
     ])
 
 -- each is routed by the ring, which stays
-abbrev IsRouted : ℕ → ℕ → AskedFor → Type 0
+abbrev IsRouted : ℕ → ℕ → TakenRequest → Type 0
 IsRouted client request x = IsRingAfter one_server (before (takes client) request restart_log) x.ring
 
-rings_by : (client request : ℕ) (x : AskedFor) → asked_at restart_order client request ≡ Some x → IsRouted client request x
+rings_by : (client request : ℕ) (x : TakenRequest) → asked_at restart_order client request ≡ Some x → IsRouted client request x
 rings_by client request x at =
     let o = asked_two client request x at in
     subst (λ (c : ℕ). IsRouted c request x) o.0 (elim o.1 [
-      | inl h ↦ subst (λ (n : ℕ). IsRouted 0 n x) (sym h.0) (subst (λ (y : AskedFor). IsRouted 0 0 y) (sym h.1) refl)
-      | inr h ↦ subst (λ (n : ℕ). IsRouted 0 n x) (sym h.0) (subst (λ (y : AskedFor). IsRouted 0 1 y) (sym h.1) refl)
+      | inl h ↦ subst (λ (n : ℕ). IsRouted 0 n x) (sym h.0) (subst (λ (y : TakenRequest). IsRouted 0 0 y) (sym h.1) refl)
+      | inr h ↦ subst (λ (n : ℕ). IsRouted 0 n x) (sym h.0) (subst (λ (y : TakenRequest). IsRouted 0 1 y) (sym h.1) refl)
     ])
 
 -- the request of a tag, its command and its outcome
 record Known (tag : Tag) (place : ℕ) (atom : Atom (List ℕ)) (outcome : Outcome) : Type 0 where
   pub own : 0 ≡ tag.session
-  pub asked : AskedFor
+  pub asked : TakenRequest
   pub which : IsOne tag.request asked
   pub command : slice_get (route_of_taken asked.ring asked.what) tag.atom ≡ Some (to_place place atom)
   pub became : slice_get asked.outcomes tag.atom ≡ Some outcome
@@ -154,7 +154,7 @@ known tag place atom outcome at became =
       asked = asked.0;
       which = o.1;
       command = asked.2;
-      became = ap (λ (x : AskedFor). slice_get x.outcomes tag.atom) (sym same) ∙ told.2;
+      became = ap (λ (x : TakenRequest). slice_get x.outcomes tag.atom) (sym same) ∙ told.2;
     }
 
 -- its replies are in the history, and no command is lost
@@ -164,10 +164,10 @@ replied_by tag place atom reply at became =
     let k = known tag place atom (outcomes.Reply reply) at became in
     elim k.which [
       | inl h ↦ entry_as restart_history tag place 0 0 stored set_key Stored atom reply refl k.own h.0 refl refl
-          (one_command k.asked set_key tag.atom (to_place place atom) (ap (λ (x : AskedFor). route_of_taken x.ring x.what) h.1) k.command)
+          (one_command k.asked set_key tag.atom (to_place place atom) (ap (λ (x : TakenRequest). route_of_taken x.ring x.what) h.1) k.command)
           (outcome_of k.asked first (outcomes.Reply Stored) (outcomes.Reply reply) tag.atom h.1 refl k.became)
       | inr h ↦ entry_as restart_history tag place 1 1 missed get_key Miss atom reply refl k.own h.0 refl refl
-          (one_command k.asked get_key tag.atom (to_place place atom) (ap (λ (x : AskedFor). route_of_taken x.ring x.what) h.1) k.command)
+          (one_command k.asked get_key tag.atom (to_place place atom) (ap (λ (x : TakenRequest). route_of_taken x.ring x.what) h.1) k.command)
           (outcome_of k.asked second (outcomes.Reply Miss) (outcomes.Reply reply) tag.atom h.1 refl k.became)
     ]
 

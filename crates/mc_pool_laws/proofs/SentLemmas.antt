@@ -14,7 +14,7 @@ use Rattle.mc_link.specs.declared.turns.Tag.{Tag}
 use Rattle.mc_cache.specs.CacheState.{CacheState}
 use Rattle.mc_cache.specs.Step.{step_of}
 use Rattle.mc_account.specs.Lookups.{asked_at, command_at, command_in}
-use Rattle.mc_account.specs.Orders.{Entry as Asked, Order, entries_of, taken_of}
+use Rattle.mc_account.specs.Orders.{Order, TakenRequest, entries_of, taken_of}
 use Rattle.mc_history.specs.declared.entries.Entry.{Entry}
 use Rattle.mc_history.specs.Histories.{IsLegal, tag_in}
 use Rattle.mc_world.specs.Accounts.{Accounts}
@@ -36,15 +36,15 @@ taken_few losses ring opening order texts outs histories log h client =
 
 -- a request of a client in the order is the one of its number in the client's text
 sent_in_text : (losses : Losses) (ring : RingState) (opening : CacheState) (order : Order) (texts outs : ℕ → List ℕ) (histories : ℕ → List Entry) (log : Log)
-    → Accounts losses ring opening order texts outs histories log → (client request : ℕ) (e : Asked) → asked_at order client request ≡ Some e
+    → Accounts losses ring opening order texts outs histories log → (client request : ℕ) (e : TakenRequest) → asked_at order client request ≡ Some e
     → slice_get (requests_of (texts client)) request ≡ Some e.what
 sent_in_text losses ring opening order texts outs histories log h client request e at =
     let asked = h.asked client in
     ap (λ (ts : List Taken). slice_get ts request) (sym asked.1)
-    ∙ got_there (taken_of client order) asked.0 request e.what (got_map (λ (x : Asked). x.what) (entries_of client order) request e at)
+    ∙ got_there (taken_of client order) asked.0 request e.what (got_map (λ (x : TakenRequest). x.what) (entries_of client order) request e at)
 
 pub entry_taken : (losses : Losses) (ring : RingState) (opening : CacheState) (order : Order) (texts outs : ℕ → List ℕ) (histories : ℕ → List Entry) (log : Log)
-    → Accounts losses ring opening order texts outs histories log → (client request : ℕ) (e : Asked) → asked_at order client request ≡ Some e
+    → Accounts losses ring opening order texts outs histories log → (client request : ℕ) (e : TakenRequest) → asked_at order client request ≡ Some e
     → IsTaken ring texts log client request e.what e.ring
 entry_taken losses ring opening order texts outs histories log h client request e at =
     let inside = got_inside (entries_of client order) request e at in
@@ -76,7 +76,7 @@ puts_few losses ring opening order texts outs histories log h client =
 -- each request that the log takes is in the order
 taken_entry : (losses : Losses) (ring : RingState) (opening : CacheState) (order : Order) (texts outs : ℕ → List ℕ) (histories : ℕ → List Entry) (log : Log)
     → Accounts losses ring opening order texts outs histories log → (client request : ℕ) → request < number_of (takes client) log
-    → (e : Asked) × (asked_at order client request ≡ Some e)
+    → (e : TakenRequest) × (asked_at order client request ≡ Some e)
 taken_entry losses ring opening order texts outs histories log h client request turn =
     let turns = turns-taken order log h.turns client in
     got_some (entries_of client order) request (omega (arith, turn, turns))
@@ -89,8 +89,8 @@ request_taken losses ring opening order texts outs histories log h client reques
     (e.0.what, e.0.ring, entry_taken losses ring opening order texts outs histories log h client request e.0 e.1)
 
 -- a command that a look-up finds is one of a request that it finds
-pub in_request : (o : Option Asked) (atom : ℕ) (command : Routed) → command_in o atom ≡ Some command
-    → (e : Asked) × (o ≡ Some e) × (slice_get (route_of_taken e.ring e.what) atom ≡ Some command)
+pub in_request : (o : Option TakenRequest) (atom : ℕ) (command : Routed) → command_in o atom ≡ Some command
+    → (e : TakenRequest) × (o ≡ Some e) × (slice_get (route_of_taken e.ring e.what) atom ≡ Some command)
 in_request None atom command h = absurd (none-some command h)
 in_request (Some e) atom command h = (e, refl, h)
 

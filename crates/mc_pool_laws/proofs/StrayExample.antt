@@ -19,7 +19,7 @@ use Rattle.mc_route.specs.declared.outcomes.Outcome.TheVariants as outcomes
 use Rattle.mc_link.specs.declared.turns.Tag.{Tag}
 use Rattle.mc_proxy.specs.Sending.{tag_of}
 use Rattle.mc_account.specs.Lookups.{asked_at, command_at, outcome_at}
-use Rattle.mc_account.specs.Orders.{AreInOrder, Entry as AskedFor, IsSized, Order, Tagged, commands_from, entries_of}
+use Rattle.mc_account.specs.Orders.{AreInOrder, IsSized, Order, Tagged, TakenRequest, commands_from, entries_of}
 use Rattle.mc_world.specs.declared.events.Event.TheVariants.{ProxyTurn}
 use Rattle.mc_world.specs.Accounts.{WasTaken}
 use Rattle.mc_world.specs.Logs.{IsRingAfter, Log, before, loses, number_of, serves, takes}
@@ -35,7 +35,7 @@ use Rattle.mc_pool_laws.proofs.NeedLemmas.{Follows, a_cache, first_only, first_t
 use Rattle.mc_pool_laws.proofs.OrderExample.{two_here, two_read, two_text}
 
 -- a flush of a client, which awaits its reply, and its entry
-abbrev flush_by : ℕ → ℕ → AskedFor
+abbrev flush_by : ℕ → ℕ → TakenRequest
 flush_by client request = record { session = client; request = request; what = flush_asked; ring = one_server; losses = Told; outcomes = outcomes.Awaited ∷ [] }
 
 abbrev entry_by : ℕ → ℕ → Entry
@@ -46,10 +46,10 @@ abbrev two_turns : ℕ → Log
 two_turns second = takes_one ∷ Happened (ProxyTurn second) ∷ serves_one ∷ serves_one ∷ []
 
 -- an order of two is of such requests
-abbrev IsFlush : AskedFor → Type 0
+abbrev IsFlush : TakenRequest → Type 0
 IsFlush e = (e.what ≡ flush_asked) × (e.ring ≡ one_server) × (e.outcomes ≡ outcomes.Awaited ∷ [])
 
-each_by : (v w : Bool) (x y : AskedFor) (k : ℕ) (e : AskedFor) → slice_get (if v then x ∷ (if w then y ∷ [] else []) else (if w then y ∷ [] else [])) k ≡ Some e → (e ≡ x) ⊎ (e ≡ y)
+each_by : (v w : Bool) (x y : TakenRequest) (k : ℕ) (e : TakenRequest) → slice_get (if v then x ∷ (if w then y ∷ [] else []) else (if w then y ∷ [] else [])) k ≡ Some e → (e ≡ x) ⊎ (e ≡ y)
 each_by true true x y k e at = elim (two_here x y k e at) [
   | inl h ↦ inl h.1
   | inr h ↦ inr h.1
@@ -59,23 +59,23 @@ each_by false true x y k e at = inr (one_here y k e at).1
 each_by false false x y zero e at = absurd cc
 each_by false false x y (suc k) e at = absurd cc
 
-asked_each : (x y : AskedFor) (client request : ℕ) (e : AskedFor) → asked_at (x ∷ y ∷ []) client request ≡ Some e → (e ≡ x) ⊎ (e ≡ y)
+asked_each : (x y : TakenRequest) (client request : ℕ) (e : TakenRequest) → asked_at (x ∷ y ∷ []) client request ≡ Some e → (e ≡ x) ⊎ (e ≡ y)
 asked_each x y client request e at = each_by (x.session == client) (y.session == client) x y request e at
 
-flush_each : (x y : AskedFor) (client request : ℕ) (e : AskedFor) → IsFlush x → IsFlush y → asked_at (x ∷ y ∷ []) client request ≡ Some e → IsFlush e
+flush_each : (x y : TakenRequest) (client request : ℕ) (e : TakenRequest) → IsFlush x → IsFlush y → asked_at (x ∷ y ∷ []) client request ≡ Some e → IsFlush e
 flush_each x y client request e hx hy at = elim (asked_each x y client request e at) [
-  | inl same ↦ subst (λ (z : AskedFor). IsFlush z) (sym same) hx
-  | inr same ↦ subst (λ (z : AskedFor). IsFlush z) (sym same) hy
+  | inl same ↦ subst (λ (z : TakenRequest). IsFlush z) (sym same) hx
+  | inr same ↦ subst (λ (z : TakenRequest). IsFlush z) (sym same) hy
 ]
 
 -- no command has an outcome
-awaits : (x y : AskedFor) (tag : Tag) (q : Outcome) → IsFlush x → IsFlush y → outcome_at (x ∷ y ∷ []) tag ≡ Some q → q ≡ outcomes.Awaited
+awaits : (x y : TakenRequest) (tag : Tag) (q : Outcome) → IsFlush x → IsFlush y → outcome_at (x ∷ y ∷ []) tag ≡ Some q → q ≡ outcomes.Awaited
 awaits x y tag q hx hy became =
     let found = outcome_in_request (asked_at (x ∷ y ∷ []) tag.session tag.request) tag.atom q became in
     let is = flush_each x y tag.session tag.request found.0 hx hy found.1 in
     (one_here outcomes.Awaited tag.atom q (ap (λ (os : List Outcome). slice_get os tag.atom) (sym is.2) ∙ found.2)).1
 
-text_each : (v w : Bool) (a m b n : ℕ) → (untaken : List Taken) × (map (λ (e : AskedFor). e.what)
+text_each : (v w : Bool) (a m b n : ℕ) → (untaken : List Taken) × (map (λ (e : TakenRequest). e.what)
     (if v then flush_by a m ∷ (if w then flush_by b n ∷ [] else []) else (if w then flush_by b n ∷ [] else [])) ++ untaken ≡ requests_of (codes "flush_all\r\nflush_all\r\n"))
 text_each true true a m b n = ([], sym two_read)
 text_each true false a m b n = (flush_asked ∷ [], sym two_read)
@@ -199,7 +199,7 @@ legal_two order p q r s first second = (
 )
 
 -- two clients of one request each have it numbered
-numbered_each : (v w : Bool) (x y : AskedFor) → x.request ≡ 0 → y.request ≡ 0 → (v ≡ true → w ≡ true → ⊥)
+numbered_each : (v w : Bool) (x y : TakenRequest) → x.request ≡ 0 → y.request ≡ 0 → (v ≡ true → w ≡ true → ⊥)
     → AreInOrder (if v then x ∷ (if w then y ∷ [] else []) else (if w then y ∷ [] else []))
 numbered_each true true x y first second apart = absurd (apart refl refl)
 numbered_each true false x y first second apart = ap (λ (n : ℕ). n ∷ []) first

@@ -17,7 +17,7 @@ use Rattle.mc_proxy.specs.Emits.{answer_by, is_told}
 use Rattle.mc_proxy.specs.Sending.{tag_of}
 use Rattle.mc_cache.specs.CacheState.{CacheState}
 use Rattle.mc_account.specs.Lookups.{asked_at, command_at, command_in, outcome_at, outcome_in}
-use Rattle.mc_account.specs.Orders.{Entry as Asked, IsSized, Order, entries_of, is_complete}
+use Rattle.mc_account.specs.Orders.{IsSized, Order, TakenRequest, entries_of, is_complete}
 use Rattle.mc_history.specs.declared.entries.Entry.{Entry}
 use Rattle.mc_world.specs.Accounts.{Accounts, answers_by}
 use Rattle.mc_world.specs.Logs.{Log, number_of, puts}
@@ -59,13 +59,13 @@ got_front (suc n) (y ∷ ys) zero x at = at
 got_front (suc n) (y ∷ ys) (suc k) x at = got_front n ys k x at
 
 -- an entry of one client has its outcomes
-sized_by : (mine : Order) (x : Asked) (v : Bool) (k : ℕ) (e : Asked) → IsSized x → ((j : ℕ) → slice_get mine j ≡ Some e → IsSized e)
+sized_by : (mine : Order) (x : TakenRequest) (v : Bool) (k : ℕ) (e : TakenRequest) → IsSized x → ((j : ℕ) → slice_get mine j ≡ Some e → IsSized e)
     → slice_get (if v then x ∷ mine else mine) k ≡ Some e → IsSized e
-sized_by mine x true zero e own rest at = subst (λ (d : Asked). IsSized d) (same_Some x e at) own
+sized_by mine x true zero e own rest at = subst (λ (d : TakenRequest). IsSized d) (same_Some x e at) own
 sized_by mine x true (suc k) e own rest at = rest k at
 sized_by mine x false k e own rest at = rest k at
 
-sized_at : (client : ℕ) (order : Order) (k : ℕ) (e : Asked) → All IsSized order → slice_get (entries_of client order) k ≡ Some e → IsSized e
+sized_at : (client : ℕ) (order : Order) (k : ℕ) (e : TakenRequest) → All IsSized order → slice_get (entries_of client order) k ≡ Some e → IsSized e
 sized_at client [] zero e sized at = absurd (none-some e at)
 sized_at client [] (suc k) e sized at = absurd (none-some e at)
 sized_at client (x ∷ xs) k e sized at =
@@ -85,7 +85,7 @@ known_at losses ring opening order texts outs histories log h tag command at ans
     let complete : is_complete e ≡ true =
     passes_at is_complete (take (number_of (puts tag.session) log) (entries_of tag.session order)) tag.request e (h.answered tag.session)
     (got_taken (number_of (puts tag.session) log) (entries_of tag.session order) tag.request e answered found.1) in
-    (outcome.0, ap (λ (o : Option Asked). outcome_in o tag.atom) found.1 ∙ outcome.1, passes_at is_told e.outcomes tag.atom outcome.0 complete outcome.1)
+    (outcome.0, ap (λ (o : Option TakenRequest). outcome_in o tag.atom) found.1 ∙ outcome.1, passes_at is_told e.outcomes tag.atom outcome.0 complete outcome.1)
 
 -- the histories and the log show it
 pub told_by : (losses : Losses) (ring : RingState) (opening : CacheState) (order : Order) (texts outs : ℕ → List ℕ) (histories : ℕ → List Entry) (log : Log)
@@ -111,7 +111,7 @@ are_told histories log client request at (c ∷ cs) (o ∷ os) size each = (
 
 -- the answer to a request whose outcomes are all known
 pub answer_to : (losses : Losses) (ring : RingState) (opening : CacheState) (order : Order) (texts outs : ℕ → List ℕ) (histories : ℕ → List Entry) (log : Log)
-    → Accounts losses ring opening order texts outs histories log → (client request : ℕ) (e : Asked) → asked_at order client request ≡ Some e → is_complete e ≡ true
+    → Accounts losses ring opening order texts outs histories log → (client request : ℕ) (e : TakenRequest) → asked_at order client request ≡ Some e → is_complete e ≡ true
     → IsAnswerTo losses ring texts histories log client request (answer_by losses e.what e.outcomes)
 answer_to losses ring opening order texts outs histories log h client request e at complete =
     record {
@@ -124,23 +124,23 @@ answer_to losses ring opening order texts outs histories log h client request e 
           (λ k n command outcome is there became.
           let same : n ≡ k = omega (arith, is) in
           told_by losses ring opening order texts outs histories log h (tag_of client request n) command outcome
-          (ap (λ (o : Option Asked). command_in o n) at ∙ ap (λ (m : ℕ). slice_get (route_of_taken e.ring e.what) m) same ∙ there)
-          (ap (λ (o : Option Asked). outcome_in o n) at ∙ ap (λ (m : ℕ). slice_get e.outcomes m) same ∙ became)
+          (ap (λ (o : Option TakenRequest). command_in o n) at ∙ ap (λ (m : ℕ). slice_get (route_of_taken e.ring e.what) m) same ∙ there)
+          (ap (λ (o : Option TakenRequest). outcome_in o n) at ∙ ap (λ (m : ℕ). slice_get e.outcomes m) same ∙ became)
           (passes_at is_told e.outcomes k outcome complete became));
       bytes = refl;
     }
 
 -- answers, in sequence
 answers_from : (losses : Losses) (ring : RingState) (texts : ℕ → List ℕ) (histories : ℕ → List Entry) (log : Log) (client request : ℕ) (es : Order)
-    → ((k n : ℕ) (e : Asked) → n ≡ request + k → slice_get es k ≡ Some e → IsAnswerTo losses ring texts histories log client n (answer_by losses e.what e.outcomes))
-    → AreAnswersFrom losses ring texts histories log client request (map (λ (e : Asked). answer_by losses e.what e.outcomes) es)
+    → ((k n : ℕ) (e : TakenRequest) → n ≡ request + k → slice_get es k ≡ Some e → IsAnswerTo losses ring texts histories log client n (answer_by losses e.what e.outcomes))
+    → AreAnswersFrom losses ring texts histories log client request (map (λ (e : TakenRequest). answer_by losses e.what e.outcomes) es)
 answers_from losses ring texts histories log client request [] each = tt
 answers_from losses ring texts histories log client request (e ∷ es) each = (
   each zero request e (omega arith) refl,
   answers_from losses ring texts histories log client (suc request) es (λ k n d is there. each (suc k) n d (omega (arith, is)) there),
 )
 
-answers_join : (losses : Losses) (es : Order) → answers_by losses es ≡ concat (map (λ (e : Asked). answer_by losses e.what e.outcomes) es)
+answers_join : (losses : Losses) (es : Order) → answers_by losses es ≡ concat (map (λ (e : TakenRequest). answer_by losses e.what e.outcomes) es)
 answers_join losses [] = refl
 answers_join losses (e ∷ es) = ap (λ (bytes : List ℕ). answer_by losses e.what e.outcomes ++ bytes) (answers_join losses es)
 
@@ -152,8 +152,8 @@ pub put_answers : (losses : Losses) (ring : RingState) (opening : CacheState) (o
 put_answers losses ring opening order texts outs histories log h client =
     let n = number_of (puts client) log in
     let es = take n (entries_of client order) in (
-      map (λ (e : Asked). answer_by losses e.what e.outcomes) es,
-      length-map es (λ (e : Asked). answer_by losses e.what e.outcomes) ∙ length-take-le n (entries_of client order) (puts_few losses ring opening order texts outs histories log h client),
+      map (λ (e : TakenRequest). answer_by losses e.what e.outcomes) es,
+      length-map es (λ (e : TakenRequest). answer_by losses e.what e.outcomes) ∙ length-take-le n (entries_of client order) (puts_few losses ring opening order texts outs histories log h client),
       h.put client ∙ answers_join losses es,
       answers_from losses ring texts histories log client 0 es
           (λ k m e is there.

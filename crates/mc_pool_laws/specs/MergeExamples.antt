@@ -10,7 +10,7 @@ use Rattle.mc_ring.specs.Rings.{RingState}
 use Rattle.mc_route.specs.declared.losses.Losses.TheVariants.{Told}
 use Rattle.mc_cache.specs.Replay.{granted}
 use Rattle.mc_cache_laws.specs.Pools.{Executed}
-use Rattle.mc_account.specs.Orders.{Entry as Asked, Order}
+use Rattle.mc_account.specs.Orders.{Order, TakenRequest}
 use Rattle.mc_history.specs.declared.entries.Entry.{Entry}
 use Rattle.mc_world.specs.declared.events.Event.TheVariants.{ProxyTurn, ServerTurn}
 use Rattle.mc_world.specs.declared.logs.Logged.TheVariants.{Happened}
@@ -21,7 +21,7 @@ abbrev pub two_in_ring : RingState
 two_in_ring = record { servers = codes "a:1" ∷ codes "b:1" ∷ []; points = record { point = 0; place = 0 } ∷ [] }
 
 -- a client's first request, as it was taken
-abbrev pub first_asked : ℕ → Taken → Asked
+abbrev pub first_asked : ℕ → Taken → TakenRequest
 first_asked client what = record { session = client; request = 0; what = what; ring = two_in_ring; losses = Told; outcomes = [] }
 
 -- client 7 sets a key, and client 8 flushes both servers

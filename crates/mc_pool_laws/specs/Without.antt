@@ -13,7 +13,7 @@ use Rattle.mc_route.specs.declared.outcomes.Outcome.TheVariants as outcomes
 use Rattle.mc_link.specs.declared.turns.Tag.{Tag}
 use Rattle.mc_cache.specs.CacheState.{CacheState}
 use Rattle.mc_account.specs.Lookups.{IsBefore, asked_at, command_at, outcome_at}
-use Rattle.mc_account.specs.Orders.{AreInOrder, Entry as AskedFor, IsSized, Order, commands_to, entries_of, is_complete, taken_of}
+use Rattle.mc_account.specs.Orders.{AreInOrder, IsSized, Order, TakenRequest, commands_to, entries_of, is_complete, taken_of}
 use Rattle.mc_history.specs.declared.entries.Entry.{Entry}
 use Rattle.mc_history.specs.Histories.{HasReply, IsLegal, tag_in}
 use Rattle.mc_history.specs.Named.{tags_of}
@@ -43,9 +43,9 @@ pub data Clause : Type 0 where
 -- the clauses of an account, except one, as they are there
 pub record AccountsBut (one : Clause) (losses : Losses) (ring : RingState) (opening : CacheState) (order : Order) (texts outs : ℕ → List ℕ) (histories : ℕ → List Entry) (log : Log) : Type 0 where
   pub asked : one ≢ Asked → (client : ℕ) → (untaken : List Taken) × (taken_of client order ++ untaken ≡ requests_of (texts client))
-  pub turns : one ≢ Turns → map (λ (e : AskedFor). e.session) order ≡ turns_of log
+  pub turns : one ≢ Turns → map (λ (e : TakenRequest). e.session) order ≡ turns_of log
   pub numbered : one ≢ Numbered → (client : ℕ) → AreInOrder (entries_of client order)
-  pub rings : one ≢ Rings → (client request : ℕ) (e : AskedFor) → asked_at order client request ≡ Some e → IsRingAfter ring (before (takes client) request log) e.ring
+  pub rings : one ≢ Rings → (client request : ℕ) (e : TakenRequest) → asked_at order client request ≡ Some e → IsRingAfter ring (before (takes client) request log) e.ring
   pub sized : one ≢ Sized → All IsSized order
   pub legal : one ≢ Legal → (place life : ℕ) → IsLegal order place opening (in_life place life log (histories place))
   pub once : one ≢ Once → (r s j k : ℕ) (d e : Entry) → slice_get (histories r) j ≡ Some d → slice_get (histories s) k ≡ Some e → tag_in d ≡ tag_in e

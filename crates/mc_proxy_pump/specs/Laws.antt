@@ -2,7 +2,7 @@
 use Rattle.std.specs.Prelude.{◌≡◌, ℕ, List, [], ◌∷◌, ◌++◌, map}
 use Rattle.mc_proxy.specs.ProxyState.{ProxyState}
 use Rattle.mc_account.specs.Lanes.{Lane}
-use Rattle.mc_account.specs.Orders.{Entry, Order}
+use Rattle.mc_account.specs.Orders.{Order, TakenRequest}
 use Rattle.mc_account.specs.Holds.{ProxyHolds, changed, grown}
 
 -- each entry was taken of the session of a number
@@ -19,7 +19,7 @@ pub record HoldsAfterClient (number : ℕ) (came went : List ℕ) (texts sent : 
 
 -- what was taken, without its outcomes
 abbrev pub asked_in : Order → Order
-asked_in order = map (λ (e : Entry). record e { outcomes = [] }) order
+asked_in order = map (λ (e : TakenRequest). record e { outcomes = [] }) order
 
 -- The proxy holds with the bytes that arrived over a link and those sent over it appended to the earlier ones, and with the
 -- same requests taken in the same order: more outcomes may be known.

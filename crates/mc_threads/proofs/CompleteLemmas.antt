@@ -25,7 +25,7 @@ use Rattle.mc_proxy.specs.SessionState.{SessionState, link_at}
 use Rattle.mc_proxy.specs.ProxyState.{ProxyState, output_of, session_at, unanswered_of}
 use Rattle.mc_proxy.specs.Turns.{waiting_of}
 use Rattle.mc_account.specs.Lanes.{CanHave, Lane, LaneHolds, as_waiting, spelled, told}
-use Rattle.mc_account.specs.Orders.{Entry, IsSized, IsToldAs, Order, Tagged, answers_of, commands_to, entries_of, outcomes_from, outcomes_in, outcomes_to, taken_of, unanswered_of as as_unanswered}
+use Rattle.mc_account.specs.Orders.{IsSized, IsToldAs, Order, Tagged, TakenRequest, answers_of, commands_to, entries_of, outcomes_from, outcomes_in, outcomes_to, taken_of, unanswered_of as as_unanswered}
 use Rattle.mc_account.specs.Holds.{ProxyHolds, SessionHolds, SessionHoldsAt, IsUnused}
 use Rattle.mc_account.proofs.OpenSessions.{own_number}
 use Rattle.mc_account.proofs.OrderLemmas.{lengths_to, passes_parts}
@@ -71,7 +71,7 @@ over_at client order text out (Some t) s is h taken answered moved = over_answer
 
 unused_answered : (client : ℕ) (order : Order) (text out : List ℕ) (session : Option SessionState) → IsUnused client order text out session → IsOver order text out client
 unused_answered client order text out session h = record {
-  asked = ap (λ (es : Order). map (λ (e : Entry). e.what) es) h.nothing_taken ∙ sym (ap requests_of h.nothing_came ∙ no_requests);
+  asked = ap (λ (es : Order). map (λ (e : TakenRequest). e.what) es) h.nothing_taken ∙ sym (ap requests_of h.nothing_came ∙ no_requests);
   put = h.nothing_sent ∙ sym (ap answers_of h.nothing_taken);
 }
 
@@ -153,10 +153,10 @@ replied_from (command ∷ commands) (x ∷ xs) h known =
     and_from (is_reply x) (list_all is_reply xs) first (replied_from commands xs (cc) others)
 
 replied_order : (es : Order) → All IsSized es → ((place : ℕ) → list_all is_reply (outcomes_to place es) ≡ true) → All (λ e. list_all is_reply e.outcomes ≡ true) es
-replied_order [] sized known = All-nil (λ (e : Entry). list_all is_reply e.outcomes ≡ true)
+replied_order [] sized known = All-nil (λ (e : TakenRequest). list_all is_reply e.outcomes ≡ true)
 replied_order (e ∷ es) sized known =
     let parts = λ (place : ℕ). passes_parts is_reply (outcomes_in place e) (outcomes_to place es) (known place) in
-    All-cons (λ (e : Entry). list_all is_reply e.outcomes ≡ true) e es
+    All-cons (λ (e : TakenRequest). list_all is_reply e.outcomes ≡ true) e es
     (replied_from (route_of_taken e.ring e.what) e.outcomes (All-head IsSized e es sized) (λ place. (parts place).0))
     (replied_order es (All-tail IsSized e es sized) (λ place. (parts place).1))
 
@@ -174,13 +174,13 @@ taken_inside : (ring : RingState) (what : Taken) → IsRing ring → All (λ (ro
 taken_inside ring (Whole request) is_ring = route_inside ring request is_ring
 taken_inside ring (Faulty fault) is_ring = All-nil (λ (routed : Routed). routed.server < length ring.servers)
 
-none_to : (ring : RingState) (place : ℕ) (es : Order) → IsRing ring → length ring.servers ≤ place → All (λ (e : Entry). e.ring ≡ ring) es → outcomes_to place es ≡ []
+none_to : (ring : RingState) (place : ℕ) (es : Order) → IsRing ring → length ring.servers ≤ place → All (λ (e : TakenRequest). e.ring ≡ ring) es → outcomes_to place es ≡ []
 none_to ring place [] is_ring above rings = refl
 none_to ring place (e ∷ es) is_ring above rings =
-    let own : e.ring ≡ ring = All-head (λ (x : Entry). x.ring ≡ ring) e es rings in
+    let own : e.ring ≡ ring = All-head (λ (x : TakenRequest). x.ring ≡ ring) e es rings in
     let inside = subst (λ (r : RingState). All (λ (c : Routed). c.server < length ring.servers) (route_of_taken r e.what)) (sym own) (taken_inside ring e.what is_ring) in
     rw (none_from (length ring.servers) place (route_of_taken e.ring e.what) e.outcomes above inside)
-    (none_to ring place es is_ring above (All-tail (λ (x : Entry). x.ring ≡ ring) e es rings))
+    (none_to ring place es is_ring above (All-tail (λ (x : TakenRequest). x.ring ≡ ring) e es rings))
 
 none_left : (cs : List Tagged) → length cs ≡ 0 → [] ≡ cs
 none_left [] size = refl
@@ -188,7 +188,7 @@ none_left (c ∷ cs) size = absurd (omega (arith, size))
 
 -- no command is executed there
 beyond_made : (ring : RingState) (opening : CacheState) (texts outs : ℕ → List ℕ) (order : Order) (lanes : ℕ → Lane) (proxy : ProxyState) (began ended : List ℕ) (server : ℕ) → IsRing ring
-    → ProxyHolds texts outs order lanes proxy → All (λ (e : Entry). e.ring ≡ ring) order → length ring.servers ≤ server → IsMadeFor ring opening order began ended server
+    → ProxyHolds texts outs order lanes proxy → All (λ (e : TakenRequest). e.ring ≡ ring) order → length ring.servers ≤ server → IsMadeFor ring opening order began ended server
 beyond_made ring opening texts outs order lanes proxy began ended server is_ring holds rings above =
     let none = none_to ring server order is_ring above rings in
     let size : length (outcomes_to server order) ≡ 0 = ap (λ (xs : List Outcome). length xs) none in

@@ -7,7 +7,7 @@ use Rattle.mc_request.specs.Requests.{requests_of}
 use Rattle.mc_request.specs.declared.parts.Taken.{Taken}
 use Rattle.mc_codec.specs.Spellings.{can_be_spelled}
 use Rattle.mc_codec.proofs.SayLemmas.{requests_can_be_spelled}
-use Rattle.mc_account.specs.Orders.{Entry as Asked, Order, commands_in, commands_to, entries_of, taken_of}
+use Rattle.mc_account.specs.Orders.{Order, TakenRequest, commands_in, commands_to, entries_of, taken_of}
 use Rattle.mc_account.proofs.OrderLemmas.{passes_joined}
 use Rattle.mc_account.proofs.OpenSessions.{own_number}
 use Rattle.mc_history.specs.Generations.{is_good}
@@ -18,9 +18,9 @@ pub good_to : (server : ℕ) (es : Order) → ((client : ℕ) → list_all can_b
 good_to server [] spelled = refl
 good_to server (e ∷ es) spelled =
     let own : list_all can_be_spelled (e.what ∷ taken_of e.session es) ≡ true =
-    ap (λ (v : Bool). list_all can_be_spelled (map (λ (x : Asked). x.what) (if v then e ∷ entries_of e.session es else entries_of e.session es))) (sym (own_number e.session)) ∙ spelled e.session in
+    ap (λ (v : Bool). list_all can_be_spelled (map (λ (x : TakenRequest). x.what) (if v then e ∷ entries_of e.session es else entries_of e.session es))) (sym (own_number e.session)) ∙ spelled e.session in
     let others = λ (client : ℕ). (elim (e.session == client) as (λ v.
-    list_all can_be_spelled (map (λ (x : Asked). x.what) (if v then e ∷ entries_of client es else entries_of client es)) ≡ true → list_all can_be_spelled (taken_of client es) ≡ true) [
+    list_all can_be_spelled (map (λ (x : TakenRequest). x.what) (if v then e ∷ entries_of client es else entries_of client es)) ≡ true → list_all can_be_spelled (taken_of client es) ≡ true) [
       | true ↦ λ h. (and_parts (can_be_spelled e.what) (list_all can_be_spelled (taken_of client es)) h).1
       | false ↦ λ h. h
     ]) (spelled client) in

@@ -8,7 +8,7 @@ use Rattle.mc_route.specs.declared.losses.Losses.TheVariants.{Told}
 use Rattle.mc_link.specs.LinkState.{LinkState, down_link, up_link}
 use Rattle.mc_proxy.specs.SessionState.{link_at}
 use Rattle.mc_account.specs.Lanes.{LinkHolds, fresh_lane}
-use Rattle.mc_account.specs.Orders.{IsToldAs, Entry, IsSized}
+use Rattle.mc_account.specs.Orders.{IsToldAs, TakenRequest, IsSized}
 use Rattle.mc_account.proofs.LaneLemmas.{lane_fresh}
 use Rattle.mc_threads.specs.Talks.{Talks}
 
@@ -48,7 +48,7 @@ talks_opens ring is_ring = record {
     links = λ place. link_opens (length ring.servers) place;
   };
   is_ring = is_ring;
-  rings = All-nil (λ (e : Entry). e.ring ≡ ring);
+  rings = All-nil (λ (e : TakenRequest). e.ring ≡ ring);
   ring_is = refl;
   losses_is = refl;
   admitted = refl;

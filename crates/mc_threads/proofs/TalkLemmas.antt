@@ -28,7 +28,7 @@ use Rattle.mc_proxy.specs.Noting.{noted}
 use Rattle.mc_proxy.specs.ProxyState.{ProxyState, Sessions, output_of, sent_by, session_at, session_in, updated, with_fresh}
 use Rattle.mc_proxy.specs.Turns.{Alone, Steps}
 use Rattle.mc_account.specs.Lanes.{Lane, LaneHolds, LinkHolds, told}
-use Rattle.mc_account.specs.Orders.{Entry, Order, commands_from, commands_to, note, note_in}
+use Rattle.mc_account.specs.Orders.{Order, TakenRequest, commands_from, commands_to, note, note_in}
 use Rattle.mc_account.specs.Holds.{ProxyHolds, changed, grown}
 use Rattle.mc_account.proofs.HandingLemmas.{handed_at, received_up}
 use Rattle.mc_account.proofs.LaneLemmas.{link_other, link_own, up_is_there}
@@ -95,7 +95,7 @@ up_relinked place server link links own other =
     (λ e. ap (λ (l : LinkState). l.up) (link_other place server link links e.1) ∙ other)
     (eqb_tells place server)
 
-up_handed : (session request server : ℕ) (e : Entry) (links now : List LinkState) → now ≡ handed session request 0 (route_of_taken e.ring e.what) links → (link_at links server).up ≡ true → (link_at now server).up ≡ true
+up_handed : (session request server : ℕ) (e : TakenRequest) (links now : List LinkState) → now ≡ handed session request 0 (route_of_taken e.ring e.what) links → (link_at links server).up ≡ true → (link_at now server).up ≡ true
 up_handed session request server e links now is up =
     ap (λ (ls : List LinkState). (link_at ls server).up) is
     ∙ ap (λ (l : LinkState). l.up) (handed_at server session request 0 (route_of_taken e.ring e.what) links
@@ -103,11 +103,11 @@ up_handed session request server e links now is up =
     ∙ up
 
 -- rings of an order in which an outcome is noted
-rings_noted : (ring : RingState) (tag : Tag) (outcome : Outcome) (es : Order) → All (λ (e : Entry). e.ring ≡ ring) es → All (λ (e : Entry). e.ring ≡ ring) (note tag outcome es)
-rings_noted ring tag outcome [] h = All-nil (λ (e : Entry). e.ring ≡ ring)
+rings_noted : (ring : RingState) (tag : Tag) (outcome : Outcome) (es : Order) → All (λ (e : TakenRequest). e.ring ≡ ring) es → All (λ (e : TakenRequest). e.ring ≡ ring) (note tag outcome es)
+rings_noted ring tag outcome [] h = All-nil (λ (e : TakenRequest). e.ring ≡ ring)
 rings_noted ring tag outcome (e ∷ es) h =
-    All-cons (λ (x : Entry). x.ring ≡ ring) (note_in tag outcome e) (note tag outcome es) (All-head (λ (x : Entry). x.ring ≡ ring) e es h)
-    (rings_noted ring tag outcome es (All-tail (λ (x : Entry). x.ring ≡ ring) e es h))
+    All-cons (λ (x : TakenRequest). x.ring ≡ ring) (note_in tag outcome e) (note tag outcome es) (All-head (λ (x : TakenRequest). x.ring ≡ ring) e es h)
+    (rings_noted ring tag outcome es (All-tail (λ (x : TakenRequest). x.ring ≡ ring) e es h))
 
 -- `turn`
 unchanged : (number : ℕ) (turn : SessionTurn) (ring : RingState) (losses : Losses) (links now : List LinkState) (before after : SessionState)
@@ -125,7 +125,7 @@ talks_took ring clients texts outs went came number old new h steps = record {
   lanes = h.lanes;
   holds = holds-took texts outs h.order h.lanes number old new h.holds steps;
   is_ring = h.is_ring;
-  rings = All-push (λ (e : Entry). e.ring ≡ ring) h.order (entry_taken steps) h.rings h.ring_is;
+  rings = All-push (λ (e : TakenRequest). e.ring ≡ ring) h.order (entry_taken steps) h.rings h.ring_is;
   ring_is = steps.ring ∙ h.ring_is;
   losses_is = steps.losses ∙ h.losses_is;
   admitted = steps.admitted ∙ h.admitted;

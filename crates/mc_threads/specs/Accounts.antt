@@ -9,7 +9,7 @@ use Rattle.mc_route.specs.declared.losses.Losses.TheVariants.{Told}
 use Rattle.mc_route.specs.declared.outcomes.Outcome.{Outcome}
 use Rattle.mc_route.specs.declared.outcomes.Outcome.TheVariants.{Reply}
 use Rattle.mc_cache.specs.CacheState.{CacheState}
-use Rattle.mc_account.specs.Orders.{AreInOrder, Entry as Asked, IsSized, IsToldAs, Order, answers_of, commands_to, entries_of, taken_of}
+use Rattle.mc_account.specs.Orders.{AreInOrder, IsSized, IsToldAs, Order, TakenRequest, answers_of, commands_to, entries_of, taken_of}
 use Rattle.mc_history.specs.Histories.{IsLegal, tag_in}
 use Rattle.mc_history.specs.Named.{AreReplied, tags_of}
 use Rattle.mc_history.specs.declared.entries.Entry.{Entry}
@@ -45,10 +45,10 @@ pub record Accounts (ring : RingState) (opening : CacheState) (order : Order) (t
   -- `Told`, and each of its commands has a reply
   pub asked : (client : ℕ) → taken_of client order ≡ requests_of (texts client)
   pub numbered : (client : ℕ) → AreInOrder (entries_of client order)
-  pub rings : All (λ (e : Asked). e.ring ≡ ring) order
+  pub rings : All (λ (e : TakenRequest). e.ring ≡ ring) order
   pub chosen : All (IsToldAs Told) order
   pub sized : All IsSized order
-  pub all_replied : All (λ (e : Asked). list_all is_reply e.outcomes ≡ true) order
+  pub all_replied : All (λ (e : TakenRequest). list_all is_reply e.outcomes ≡ true) order
   -- each history is legal, and has the commands of the order to its server, each once and in that order
   pub legal : (server : ℕ) → IsLegal order server opening (histories server)
   pub commands : (server : ℕ) → map tag_in (histories server) ≡ tags_of (commands_to server order)

@@ -7,7 +7,7 @@ use Rattle.mc_proxy.specs.SessionState.{SessionState, link_at}
 use Rattle.mc_proxy.specs.ProxyState.{ProxyState, output_of, session_at, unanswered_of}
 use Rattle.mc_proxy.specs.Turns.{waiting_of}
 use Rattle.mc_account.specs.Lanes.{Lane}
-use Rattle.mc_account.specs.Orders.{Entry, Order}
+use Rattle.mc_account.specs.Orders.{Order, TakenRequest}
 use Rattle.mc_account.specs.Holds.{ProxyHolds, grown}
 use Rattle.mc_threads.specs.Accounts.{Bytes, at, outs_of}
 use Rattle.mc_threads.specs.declared.links.Ends.{Ends}
@@ -24,7 +24,7 @@ pub record Talks (ring : RingState) (clients : ℕ) (texts outs went came : ℕ 
   pub lanes : ℕ → Lane
   pub holds : ProxyHolds texts outs order lanes proxy
   pub is_ring : IsRing ring
-  pub rings : All (λ (e : Entry). e.ring ≡ ring) order
+  pub rings : All (λ (e : TakenRequest). e.ring ≡ ring) order
   pub ring_is : proxy.ring ≡ ring
   pub losses_is : proxy.losses ≡ Told
   pub admitted : proxy.admitted ≡ clients

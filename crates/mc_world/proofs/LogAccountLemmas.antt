@@ -13,7 +13,7 @@ use Rattle.mc_link.specs.declared.turns.Tag.{Tag}
 use Rattle.mc_cache.specs.CacheState.{CacheState}
 use Rattle.mc_account.specs.Lanes.{Lane}
 use Rattle.mc_account.specs.Lookups.{IsBefore, IsRoutedWithin, command_at, command_in, outcome_at}
-use Rattle.mc_account.specs.Orders.{Entry as Asked, Order}
+use Rattle.mc_account.specs.Orders.{Order, TakenRequest}
 use Rattle.mc_account.proofs.StayingLemmas.{answers_nothing}
 use Rattle.mc_account.proofs.WithinLemmas.{commands_within}
 use Rattle.mc_history.specs.Histories.{HasReply, tag_in}
@@ -36,7 +36,7 @@ none_at (suc k) = refl
 
 -- no request has no command
 no_command : (tag : Tag) → ◌≡◌ {A = Option Routed} (command_at [] tag) None
-no_command tag = ap (λ (o : Option Asked). command_in o tag.atom) (none_at tag.request)
+no_command tag = ap (λ (o : Option TakenRequest). command_in o tag.atom) (none_at tag.request)
 
 pub log_begins : (opening : RingState) (pool : PoolState) → IsFresh opening pool → LogHolds opening [] (λ client. []) [] pool
 log_begins opening pool h =

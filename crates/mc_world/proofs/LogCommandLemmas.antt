@@ -11,7 +11,7 @@ use Rattle.mc_route.specs.declared.outcomes.Outcome.TheVariants.{Awaited, Lost, 
 use Rattle.mc_route.specs.declared.routes.Routed.{Routed}
 use Rattle.mc_link.specs.declared.turns.Tag.{Tag}
 use Rattle.mc_account.specs.Lookups.{asked_at, command_at, command_in, outcome_at, outcome_in}
-use Rattle.mc_account.specs.Orders.{AreInOrder, Entry as Asked, Order, entries_of, note}
+use Rattle.mc_account.specs.Orders.{AreInOrder, Order, TakenRequest, entries_of, note}
 use Rattle.mc_history.specs.Histories.{HasNone, tag_in}
 use Rattle.mc_history.specs.declared.entries.Entry.{Entry}
 use Rattle.mc_history.proofs.OutcomeLemmas.{command_note, note_back}
@@ -26,11 +26,11 @@ use Rattle.mc_world.proofs.LogLemmas.{before-stays, number-push}
 use Rattle.mc_world.proofs.LogOrderLemmas.{turns-taken}
 
 -- a command that exists, and one with an outcome, are of a request that was taken
-pub request_of : (o : Option Asked) (atom : ℕ) (routed : Routed) → command_in o atom ≡ Some routed → (e : Asked) × (o ≡ Some e)
+pub request_of : (o : Option TakenRequest) (atom : ℕ) (routed : Routed) → command_in o atom ≡ Some routed → (e : TakenRequest) × (o ≡ Some e)
 request_of None atom routed at = absurd (none-some routed at)
 request_of (Some e) atom routed at = (e, refl)
 
-pub request_known : (o : Option Asked) (atom : ℕ) (outcome : Outcome) → outcome_in o atom ≡ Some outcome → (e : Asked) × (o ≡ Some e)
+pub request_known : (o : Option TakenRequest) (atom : ℕ) (outcome : Outcome) → outcome_in o atom ≡ Some outcome → (e : TakenRequest) × (o ≡ Some e)
 request_known None atom outcome at = absurd (none-some outcome at)
 request_known (Some e) atom outcome at = (e, refl)
 

@@ -5,7 +5,7 @@ use Rattle.std.proofs.lemmas.Bool.Decides.{eqb_tells}
 use Rattle.std.proofs.lemmas.Option.{none-some, same_Some}
 use Rattle.mc_link.specs.declared.turns.Tag.{Tag}
 use Rattle.mc_account.specs.Lookups.{asked_at}
-use Rattle.mc_account.specs.Orders.{Entry as Asked, Order, entries_of}
+use Rattle.mc_account.specs.Orders.{Order, TakenRequest, entries_of}
 use Rattle.mc_account.proofs.OrderLemmas.{entries_push_other, entries_push_own}
 use Rattle.mc_world.specs.WorldState.{SiteState, WayState, begun_of, histories_of}
 
@@ -66,7 +66,7 @@ got_mapped f (x ∷ xs) zero y at = (x, refl, same_Some (f x) y at)
 got_mapped f (x ∷ xs) (suc k) y at = got_mapped f xs k y at
 
 -- a request of a client after one more was taken: it was taken before, or is that one
-pub asked_pushed : (order : Order) (e : Asked) (client request : ℕ) (d : Asked) → asked_at (order ++ e ∷ []) client request ≡ Some d
+pub asked_pushed : (order : Order) (e : TakenRequest) (client request : ℕ) (d : TakenRequest) → asked_at (order ++ e ∷ []) client request ≡ Some d
     → (asked_at order client request ≡ Some d) ⊎ ((e.session ≡ client) × (request ≡ length (entries_of client order)) × (d ≡ e))
 asked_pushed order e client request d at =
     ⊎_elim

@@ -9,7 +9,7 @@ use Rattle.mc_link.specs.declared.turns.Tag.{Tag}
 use Rattle.mc_proxy.specs.SessionNoting.{with_outcome}
 use Rattle.mc_account.specs.Answered.{AreAnswers}
 use Rattle.mc_account.specs.Lookups.{AreAwaited, IsRoutedWithin, asked_at, command_at, outcome_at, outcome_in}
-use Rattle.mc_account.specs.Orders.{AreInOrder, Entry as Asked, Order, entries_of, note, note_all, note_in, numbers_from, owns}
+use Rattle.mc_account.specs.Orders.{AreInOrder, Order, TakenRequest, entries_of, note, note_all, note_in, numbers_from, owns}
 use Rattle.mc_account.proofs.LookupLemmas.{numbered-note}
 use Rattle.mc_account.proofs.OrderLemmas.{entries-note}
 use Rattle.mc_account.proofs.StayingLemmas.{answers_note}
@@ -20,8 +20,9 @@ use Rattle.mc_history.proofs.OutcomeLemmas.{command_note, note_back, own_of}
 -- The same requests, with more outcomes known: a lost command stays lost, and an answered one
 -- answered.
 pub record Goes (old new : Order) : Type 0 where
-  pub sessions : map (λ (e : Asked). e.session) new ≡ map (λ (e : Asked). e.session) old
-  pub rings : (client request : ℕ) (e : Asked) → asked_at new client request ≡ Some e → (d : Asked) × (asked_at old client request ≡ Some d) × (e.ring ≡ d.ring)
+  pub sessions : map (λ (e : TakenRequest). e.session) new ≡ map (λ (e : TakenRequest). e.session) old
+  pub rings : (client request : ℕ) (e : TakenRequest) → asked_at new client request ≡ Some e
+      → (d : TakenRequest) × (asked_at old client request ≡ Some d) × (e.ring ≡ d.ring)
   pub inside : (places : ℕ) → All (IsRoutedWithin places) old → All (IsRoutedWithin places) new
   pub commands : (tag : Tag) → command_at new tag ≡ command_at old tag
   pub lost : (tag : Tag) → outcome_at old tag ≡ Some Lost → outcome_at new tag ≡ Some Lost
@@ -81,7 +82,7 @@ note_some t outcome order tag q e =
     (there.0, ap (λ (es : Order). outcome_in (slice_get es tag.request) tag.atom) (entries-note tag.session t outcome order) ∙ there.1)
 
 -- the command whose outcome is noted
-own_in : (t : Tag) (outcome : Outcome) (es : Order) (at k : ℕ) (q : Outcome) → map (λ (e : Asked). e.request) es ≡ numbers_from at es → Each (λ (e : Asked). e.session ≡ t.session) es
+own_in : (t : Tag) (outcome : Outcome) (es : Order) (at k : ℕ) (q : Outcome) → map (λ (e : TakenRequest). e.request) es ≡ numbers_from at es → Each (λ (e : TakenRequest). e.session ≡ t.session) es
     → k + at ≡ t.request → outcome_in (slice_get es k) t.atom ≡ Some q → outcome_in (slice_get (note t outcome es) k) t.atom ≡ Some outcome
 own_in t outcome [] at zero q numbered own number e = absurd (none-some q e)
 own_in t outcome [] at (suc k) q numbered own number e = absurd (none-some q e)
@@ -91,7 +92,7 @@ own_in t outcome (x ∷ xs) at zero q numbered own number e =
     let owned : owns t x ≡ true = and_from (x.session == t.session) (x.request == t.request) (eq-eqb x.session t.session own.0) (eq-eqb x.request t.request its) in
     ap (λ (v : Bool). slice_get (if v then with_outcome t.atom outcome x.outcomes else x.outcomes) t.atom) owned ∙ with_own t.atom outcome x.outcomes q e
 own_in t outcome (x ∷ xs) at (suc k) q numbered own number e =
-    let after : map (λ (y : Asked). y.request) xs ≡ numbers_from (suc at) xs = cc in
+    let after : map (λ (y : TakenRequest). y.request) xs ≡ numbers_from (suc at) xs = cc in
     own_in t outcome xs (suc at) k q after own.1 (omega (arith, number)) e
 
 note_own : (t : Tag) (outcome : Outcome) (order : Order) (q : Outcome) → AreInOrder (entries_of t.session order) → outcome_at order t ≡ Some q → outcome_at (note t outcome order) t ≡ Some outcome
@@ -115,14 +116,15 @@ lost_stays t outcome order numbered awaited tag lost =
     ]
 
 -- the ring of a request
-ring_noted : (t : Tag) (outcome : Outcome) (es : Order) (k : ℕ) (e : Asked) → slice_get (note t outcome es) k ≡ Some e → (d : Asked) × (slice_get es k ≡ Some d) × (e.ring ≡ d.ring)
+ring_noted : (t : Tag) (outcome : Outcome) (es : Order) (k : ℕ) (e : TakenRequest) → slice_get (note t outcome es) k ≡ Some e → (d : TakenRequest) × (slice_get es k ≡ Some d) × (e.ring ≡ d.ring)
 ring_noted t outcome [] zero e at = absurd (none-some e at)
 ring_noted t outcome [] (suc k) e at = absurd (none-some e at)
-ring_noted t outcome (x ∷ xs) zero e at = (x, refl, ap (λ (y : Asked). y.ring) (sym (same_Some (note_in t outcome x) e at)))
+ring_noted t outcome (x ∷ xs) zero e at = (x, refl, ap (λ (y : TakenRequest). y.ring) (sym (same_Some (note_in t outcome x) e at)))
 ring_noted t outcome (x ∷ xs) (suc k) e at = ring_noted t outcome xs k e at
 
 -- the client of a request
-sessions-note : (t : Tag) (outcome : Outcome) (es : Order) → map (λ (e : Asked). e.session) (note t outcome es) ≡ map (λ (e : Asked). e.session) es
+sessions-note : (t : Tag) (outcome : Outcome) (es : Order)
+    → map (λ (e : TakenRequest). e.session) (note t outcome es) ≡ map (λ (e : TakenRequest). e.session) es
 sessions-note t outcome [] = refl
 sessions-note t outcome (e ∷ es) = ap (λ (cs : List ℕ). e.session ∷ cs) (sessions-note t outcome es)
 

@@ -15,7 +15,7 @@ use Rattle.mc_proxy.specs.Turns.{Alone, Steps}
 use Rattle.mc_account.specs.Answered.{AreAnswers}
 use Rattle.mc_account.specs.Lanes.{Lane}
 use Rattle.mc_account.specs.Lookups.{IsRoutedWithin, asked_at}
-use Rattle.mc_account.specs.Orders.{Entry as Asked, Order, entries_of}
+use Rattle.mc_account.specs.Orders.{Order, TakenRequest, entries_of}
 use Rattle.mc_account.specs.Holds.{ProxyHolds}
 use Rattle.mc_account.proofs.AnsweredLemmas.{open_answered}
 use Rattle.mc_account.proofs.CountLemmas.{answered-emitted, steps_other, steps_own}
@@ -28,7 +28,7 @@ use Rattle.mc_world.proofs.LogOrderLemmas.{turns-none, turns-push, turns-taken}
 use Rattle.mc_world.proofs.LogOutcomeLemmas.{Goes}
 
 -- the ring of a request that was taken is that of its moment
-ring_stays : (opening : RingState) (places : ℕ) (order : Order) (log : Log) (e : Logged) (client request : ℕ) (d : Asked) → RequestsHold opening places order log
+ring_stays : (opening : RingState) (places : ℕ) (order : Order) (log : Log) (e : Logged) (client request : ℕ) (d : TakenRequest) → RequestsHold opening places order log
     → asked_at order client request ≡ Some d → IsRingAfter opening (before (takes client) request (log ++ e ∷ [])) d.ring
 ring_stays opening places order log e client request d h at =
     let early : request < number_of (takes client) log = omega (arith, got_inside (entries_of client order) request d at, turns-taken order log h.turns client) in
@@ -47,11 +47,11 @@ requests_go opening places now order order' log e as_many none goes h = record {
 }
 
 -- a request is taken
-pub requests_take : (opening : RingState) (places now : ℕ) (order : Order) (asked : Asked) (log : Log) (e : Logged) → now ≡ places
+pub requests_take : (opening : RingState) (places now : ℕ) (order : Order) (asked : TakenRequest) (log : Log) (e : Logged) → now ≡ places
     → takes asked.session e ≡ true → turn_of e ≡ asked.session ∷ [] → IsRingAfter opening log asked.ring → IsRoutedWithin places asked
     → RequestsHold opening places order log → RequestsHold opening now (order ++ asked ∷ []) (log ++ e ∷ [])
 requests_take opening places now order asked log e as_many own turn ring routed h = record {
-  turns = map-append (λ (x : Asked). x.session) order (asked ∷ []) ∙ ap (λ (cs : List ℕ). cs ++ asked.session ∷ []) h.turns
+  turns = map-append (λ (x : TakenRequest). x.session) order (asked ∷ []) ∙ ap (λ (cs : List ℕ). cs ++ asked.session ∷ []) h.turns
       ∙ ap (λ (cs : List ℕ). turns_of log ++ cs) (sym turn) ∙ sym (turns-push log e);
   rings = λ client request d at. elim (asked_pushed order asked client request d at) [
     | inl k ↦ ring_stays opening places order log e client request d h k
@@ -59,7 +59,7 @@ requests_take opening places now order asked log e as_many own turn ring routed 
         let last : before (takes client) request (log ++ e ∷ []) ≡ log =
         ap (λ (n : ℕ). before (takes client) n (log ++ e ∷ [])) (k.1 ∙ turns-taken order log h.turns client)
         ∙ before-last (takes client) log e (subst (λ (n : ℕ). takes n e ≡ true) k.0 own) in
-        subst (λ (r : RingState). IsRingAfter opening (before (takes client) request (log ++ e ∷ [])) r) (ap (λ (x : Asked). x.ring) (sym k.2))
+        subst (λ (r : RingState). IsRingAfter opening (before (takes client) request (log ++ e ∷ [])) r) (ap (λ (x : TakenRequest). x.ring) (sym k.2))
         (subst (λ (l : Log). IsRingAfter opening l asked.ring) (sym last) ring))
   ];
   inside = subst (λ (n : ℕ). All (IsRoutedWithin n) (order ++ asked ∷ [])) (sym as_many) (All-push (IsRoutedWithin places) order asked h.inside routed);
@@ -104,7 +104,7 @@ after_last client log e request own early last few =
 pub answers_put : (texts sent : ℕ → List ℕ) (order : Order) (lanes : ℕ → Lane) (client : ℕ) (outs outs' : ℕ → List ℕ) (log : Log) (e : Logged) (old new : ProxyState)
     → puts client e ≡ true → ((other : ℕ) → client ≢ other → puts other e ≡ false) → ProxyHolds texts sent order lanes old → ProxyHolds texts sent order lanes new
     → (steps : Steps client old new (Alone (IsEmit emits.Done))) → ((other : ℕ) → client ≢ other → outs' other ≡ outs other) → outs' client ≡ sent client ++ steps.after.output
-    → map (λ (x : Asked). x.session) order ≡ turns_of log → AnswersHold order outs log old → AnswersHold order outs' (log ++ e ∷ []) new
+    → map (λ (x : TakenRequest). x.session) order ≡ turns_of log → AnswersHold order outs log old → AnswersHold order outs' (log ++ e ∷ []) new
 answers_put texts sent order lanes client outs outs' log e old new own none was is steps others out turns h =
     let now_at = steps_own client old new steps.before steps.after steps.was steps.is in
     let one = number-one (puts client) log e own in

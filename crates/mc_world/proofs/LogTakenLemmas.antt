@@ -11,7 +11,7 @@ use Rattle.mc_link.specs.declared.turns.Tag.{Tag}
 use Rattle.mc_proxy.specs.Sending.{at_once, outcome_by}
 use Rattle.mc_proxy.specs.SessionState.{link_at}
 use Rattle.mc_account.specs.Lookups.{IsRoutedWithin, asked_at, command_in, outcome_in}
-use Rattle.mc_account.specs.Orders.{Entry as Asked, Order, entries_of}
+use Rattle.mc_account.specs.Orders.{Order, TakenRequest, entries_of}
 use Rattle.mc_account.proofs.OrderLemmas.{entries-append}
 use Rattle.mc_account.proofs.WithinLemmas.{commands_within, within-push}
 use Rattle.mc_history.specs.Histories.{HasNone}
@@ -57,28 +57,28 @@ told_at_once place tag history log x link own number up none =
     ]) was
 
 -- a lost command stays lost when one more request is taken
-pub lost_pushed : (order : Order) (asked : Asked) → KeepsLost order (order ++ asked ∷ [])
+pub lost_pushed : (order : Order) (asked : TakenRequest) → KeepsLost order (order ++ asked ∷ [])
 lost_pushed order asked tag lost =
     let e = request_known (asked_at order tag.session tag.request) tag.atom Lost lost in
     let now : asked_at (order ++ asked ∷ []) tag.session tag.request ≡ Some e.0 =
     ap (λ (es : Order). slice_get es tag.request) (entries-append tag.session order (asked ∷ []))
     ∙ got_there (entries_of tag.session order) (entries_of tag.session (asked ∷ [])) tag.request e.0 e.1 in
-    ap (λ (o : Option Asked). outcome_in o tag.atom) now ∙ sym (ap (λ (o : Option Asked). outcome_in o tag.atom) e.1) ∙ lost
+    ap (λ (o : Option TakenRequest). outcome_in o tag.atom) now ∙ sym (ap (λ (o : Option TakenRequest). outcome_in o tag.atom) e.1) ∙ lost
 
-news_taken : (opening : RingState) (places : ℕ) (order : Order) (asked : Asked) (log : Log) (x : Logged) (links : List LinkState) (histories : ℕ → List Entry) → RequestsHold opening places order log
+news_taken : (opening : RingState) (places : ℕ) (order : Order) (asked : TakenRequest) (log : Log) (x : Logged) (links : List LinkState) (histories : ℕ → List Entry) → RequestsHold opening places order log
     → HistoriesHold order log histories → takes asked.session x ≡ true → asked.outcomes ≡ map (at_once links) (route_of_taken asked.ring asked.what) → IsRoutedWithin places asked
     → ((place : ℕ) → place < places → is_up place log ≡ (link_at links place).up) → News order (order ++ asked ∷ []) histories (log ++ x ∷ [])
 news_taken opening places order asked log x links histories requests h own outcomes routed ups tag place atom outcome command known =
     let d = request_of (asked_at (order ++ asked ∷ []) tag.session tag.request) tag.atom (to_place place atom) command in
-    let command_is : slice_get (route_of_taken d.0.ring d.0.what) tag.atom ≡ Some (to_place place atom) = ap (λ (o : Option Asked). command_in o tag.atom) (sym d.1) ∙ command in
-    let outcome_is : slice_get d.0.outcomes tag.atom ≡ Some outcome = ap (λ (o : Option Asked). outcome_in o tag.atom) (sym d.1) ∙ known in
+    let command_is : slice_get (route_of_taken d.0.ring d.0.what) tag.atom ≡ Some (to_place place atom) = ap (λ (o : Option TakenRequest). command_in o tag.atom) (sym d.1) ∙ command in
+    let outcome_is : slice_get d.0.outcomes tag.atom ≡ Some outcome = ap (λ (o : Option TakenRequest). outcome_in o tag.atom) (sym d.1) ∙ known in
     elim (asked_pushed order asked tag.session tag.request d.0 d.1) [
-      | inl k ↦ inl (ap (λ (o : Option Asked). command_in o tag.atom) k ∙ command_is, ap (λ (o : Option Asked). outcome_in o tag.atom) k ∙ outcome_is)
+      | inl k ↦ inl (ap (λ (o : Option TakenRequest). command_in o tag.atom) k ∙ command_is, ap (λ (o : Option TakenRequest). outcome_in o tag.atom) k ∙ outcome_is)
       | inr k ↦ (
           let its_command : slice_get (route_of_taken asked.ring asked.what) tag.atom ≡ Some (to_place place atom) =
-          ap (λ (a : Asked). slice_get (route_of_taken a.ring a.what) tag.atom) (sym k.2) ∙ command_is in
+          ap (λ (a : TakenRequest). slice_get (route_of_taken a.ring a.what) tag.atom) (sym k.2) ∙ command_is in
           let its_outcome : slice_get (map (at_once links) (route_of_taken asked.ring asked.what)) tag.atom ≡ Some outcome =
-          ap (λ (os : List Outcome). slice_get os tag.atom) (sym outcomes) ∙ ap (λ (a : Asked). slice_get a.outcomes tag.atom) (sym k.2) ∙ outcome_is in
+          ap (λ (os : List Outcome). slice_get os tag.atom) (sym outcomes) ∙ ap (λ (a : TakenRequest). slice_get a.outcomes tag.atom) (sym k.2) ∙ outcome_is in
           let is = at_once_of links (route_of_taken asked.ring asked.what) tag.atom (to_place place atom) outcome its_command its_outcome in
           let inside : place < places = commands_within places (order ++ asked ∷ []) (within-push places order asked requests.inside routed) tag (to_place place atom) command in
           inr (subst (λ (o : Outcome). IsTold place tag (histories place) (log ++ x ∷ []) o) (sym is)
@@ -86,7 +86,7 @@ news_taken opening places order asked log x links histories requests h own outco
           (none_yet opening places order log histories place tag requests h k.1))))
     ]
 
-pub commands_take : (opening : RingState) (places : ℕ) (order : Order) (asked : Asked) (log : Log) (x : Logged) (links : List LinkState) (sites now : List SiteState) → RequestsHold opening places order log
+pub commands_take : (opening : RingState) (places : ℕ) (order : Order) (asked : TakenRequest) (log : Log) (x : Logged) (links : List LinkState) (sites now : List SiteState) → RequestsHold opening places order log
     → HistoriesHold order log (histories_of sites) → takes asked.session x ≡ true → asked.outcomes ≡ map (at_once links) (route_of_taken asked.ring asked.what) → IsRoutedWithin places asked
     → ((place : ℕ) → place < places → is_up place log ≡ (link_at links place).up) → now ≡ sites
     → CommandsHold order log sites → CommandsHold (order ++ asked ∷ []) (log ++ x ∷ []) now

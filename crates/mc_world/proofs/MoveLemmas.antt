@@ -12,7 +12,7 @@ use Rattle.mc_server.specs.Holds.{grown}
 use Rattle.mc_server.proofs.ConnectionLemmas.{updated_other, updated_own}
 use Rattle.mc_server.proofs.HoldsLemmas.{ServerHolds-sent, grown-own}
 use Rattle.mc_account.specs.Lanes.{Lane, LaneHolds}
-use Rattle.mc_account.specs.Orders.{Entry as Asked, Order, Tagged, commands_in, commands_to, entries_of}
+use Rattle.mc_account.specs.Orders.{Order, Tagged, TakenRequest, commands_in, commands_to, entries_of}
 use Rattle.mc_account.proofs.OrderLemmas.{commands-push, passes_joined}
 use Rattle.mc_account.proofs.RisingLemmas.{past_front}
 use Rattle.mc_history.specs.Generations.{AreJoined, commands_of_lane, is_good}
@@ -93,7 +93,7 @@ site_kept place order order' lane lane' link link' opening site keeps news comma
     }
 
 -- a request was taken: its commands are after those that were sent
-pub site_asked : (place : ℕ) (order : Order) (e : Asked) (lane : Lane) (link link' : LinkState) (opening : CacheState) (site : SiteState)
+pub site_asked : (place : ℕ) (order : Order) (e : TakenRequest) (lane : Lane) (link link' : LinkState) (opening : CacheState) (site : SiteState)
     → (link'.up ≡ true → link.up ≡ true) → (link.up ≡ true → lane.since ≤ length order) → list_all is_good (commands_in place e) ≡ true → e.request ≡ length (entries_of e.session order)
     → ((atom : ℕ) (reply : AReply (List ℕ)) → slice_get e.outcomes atom ≢ Some (Reply reply))
     → SiteHolds place order lane link opening site → SiteHolds place (order ++ e ∷ []) lane link' opening site

@@ -5,7 +5,7 @@ use Rattle.std.proofs.lemmas.List.Elements.{All-cons, All-head, All-nil, All-tai
 use Rattle.mc_route.specs.declared.losses.Losses.{Losses}
 use Rattle.mc_proxy.specs.Emits.{answer_by}
 use Rattle.mc_proxy.specs.ProxyState.{ProxyState, sent_by, session_at}
-use Rattle.mc_account.specs.Orders.{Entry as Asked, IsToldAs, Order, answers_of, entries_of}
+use Rattle.mc_account.specs.Orders.{IsToldAs, Order, TakenRequest, answers_of, entries_of}
 use Rattle.mc_cache.specs.CacheState.{CacheState}
 use Rattle.mc_world.specs.declared.events.Event.{Event}
 use Rattle.mc_world.specs.declared.events.Event.TheVariants.{ClientBytes, ClientGone, ClientTakes, Emit, LinkBack, LinkLost, ProxyTurn, ReplyTurn, ServerSeesEnd, ServerTurn, ToProxy, ToServer}
@@ -105,7 +105,7 @@ restarted_losses place cache (Ok value) old new restarted refused = restart_keep
 restarted_losses place cache (Err e) old new restarted refused = kept old new refused
 
 -- the first requests of a client
-own_chosen : (losses : Losses) (v : Bool) (e : Asked) (mine : Order) → IsToldAs losses e → All (IsToldAs losses) mine → All (IsToldAs losses) (if v then e ∷ mine else mine)
+own_chosen : (losses : Losses) (v : Bool) (e : TakenRequest) (mine : Order) → IsToldAs losses e → All (IsToldAs losses) mine → All (IsToldAs losses) (if v then e ∷ mine else mine)
 own_chosen losses true e mine own all = All-cons (IsToldAs losses) e mine own all
 own_chosen losses false e mine own all = all
 

@@ -19,7 +19,7 @@ use Rattle.mc_proxy.specs.SessionState.{SessionState, link_at, with_link}
 use Rattle.mc_proxy.specs.ProxyState.{ProxyState, output_of as output_at, sent_by, session_at}
 use Rattle.mc_proxy.specs.Sending.{at_once}
 use Rattle.mc_account.specs.Lanes.{Lane, LaneHolds, LinkHolds, told, fresh_lane}
-use Rattle.mc_account.specs.Orders.{Entry as Asked, Order, commands_to, note, note_all, note_in}
+use Rattle.mc_account.specs.Orders.{Order, TakenRequest, commands_to, note, note_all, note_in}
 use Rattle.mc_account.specs.Holds.{ProxyHolds, SessionHolds, SessionHoldsAt, changed, grown}
 use Rattle.mc_account.proofs.HandingLemmas.{handed_at, received_down}
 use Rattle.mc_account.proofs.LaneLemmas.{lane_fresh, link_other, link_own, up_is_there}
@@ -92,7 +92,7 @@ pool_puts opening texts sent order lanes client old new e h = record {
 }
 
 -- ProxyTurn
-still_up : (place session request : ℕ) (e : Asked) (links now : List LinkState) → now ≡ handed session request 0 (route_of_taken e.ring e.what) links
+still_up : (place session request : ℕ) (e : TakenRequest) (links now : List LinkState) → now ≡ handed session request 0 (route_of_taken e.ring e.what) links
     → (link_at now place).up ≡ true → (link_at links place).up ≡ true
 still_up place session request e links now is up = grind (arith, cases_Bool, handed_at, received_down)
 

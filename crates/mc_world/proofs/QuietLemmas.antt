@@ -20,7 +20,7 @@ use Rattle.mc_server.specs.Turns.{waiting_of}
 use Rattle.mc_proxy.specs.Emits.{is_told}
 use Rattle.mc_proxy.specs.SessionState.{SessionState, Unanswered, link_at}
 use Rattle.mc_proxy.specs.ProxyState.{output_of as output_at, session_at}
-use Rattle.mc_account.specs.Orders.{Entry as Asked, Order, entries_of, is_complete, outcomes_to, taken_of, unanswered_of}
+use Rattle.mc_account.specs.Orders.{Order, TakenRequest, entries_of, is_complete, outcomes_to, taken_of, unanswered_of}
 use Rattle.mc_account.specs.Holds.{SessionHolds, SessionHoldsAt}
 use Rattle.mc_account.proofs.LaneLemmas.{complete_order, up_is_there}
 use Rattle.mc_account.proofs.OpenSessions.{own_number}
@@ -136,7 +136,7 @@ session_quiet ring opening c h stuck few client session at =
     (λ place. (link_quiet ring opening c h stuck place).output) (λ ready. stuck (ProxyTurn client) refl (session, at, ready)) in
     let whole : taken_of client h.order ≡ requests_of (text_of c client) =
     sym (append-nil (taken_of client h.order)) ∙ ap (λ (ts : List Taken). taken_of client h.order ++ ts) (sym untaken) ∙ s.rest [] ∙ ap (λ (bytes : List ℕ). requests_of bytes) (append-nil (text_of c client)) in
-    let size : length (taken_of client h.order) ≡ length (entries_of client h.order) = length-map (entries_of client h.order) (λ (e : Asked). e.what) in
+    let size : length (taken_of client h.order) ≡ length (entries_of client h.order) = length-map (entries_of client h.order) (λ (e : TakenRequest). e.what) in
     let all : length (taken_of client h.order) ≡ length (requests_of (text_of c client)) = ap (λ (ts : List Taken). length ts) whole in
     record { output = no_output; answered = omega (arith, put, zero_left, numbered, size, all) }
 

@@ -13,7 +13,7 @@ use Rattle.mc_route.specs.declared.outcomes.Outcome.TheVariants.{Lost, Reply}
 use Rattle.mc_link.specs.declared.turns.Tag.{Tag}
 use Rattle.mc_proxy.specs.Emits.{answer_by}
 use Rattle.mc_cache.specs.CacheState.{CacheState}
-use Rattle.mc_account.specs.Orders.{AreInOrder, Entry as Asked, IsSized, Order, commands_to, entries_of, is_complete, taken_of}
+use Rattle.mc_account.specs.Orders.{AreInOrder, IsSized, Order, TakenRequest, commands_to, entries_of, is_complete, taken_of}
 use Rattle.mc_history.specs.declared.entries.Entry.{Entry}
 use Rattle.mc_world.specs.Logs.{IsRingAfter, Log, before, in_life, is_up, loses, moments_of, number_of, puts, serves, takes, turns_of}
 use Rattle.mc_history.specs.Histories.{HasNone, HasReply, IsLegal, tag_in}
@@ -56,9 +56,9 @@ pub record Accounts (losses : Losses) (ring : RingState) (opening : CacheState) 
   -- each client's requests were taken in order, by the turns of the log in theirs, and routed by the ring of that moment; each of their
   -- commands has its outcome
   pub asked : (client : ℕ) → (untaken : List Taken) × (taken_of client order ++ untaken ≡ requests_of (texts client))
-  pub turns : map (λ (e : Asked). e.session) order ≡ turns_of log
+  pub turns : map (λ (e : TakenRequest). e.session) order ≡ turns_of log
   pub numbered : (client : ℕ) → AreInOrder (entries_of client order)
-  pub rings : (client request : ℕ) (e : Asked) → asked_at order client request ≡ Some e → IsRingAfter ring (before (takes client) request log) e.ring
+  pub rings : (client request : ℕ) (e : TakenRequest) → asked_at order client request ≡ Some e → IsRingAfter ring (before (takes client) request log) e.ring
   pub sized : All IsSized order
   -- the entries of a server in each of its lives are legal, and no command has two entries in all histories
   pub legal : (place life : ℕ) → IsLegal order place opening (in_life place life log (histories place))

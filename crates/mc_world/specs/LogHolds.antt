@@ -10,7 +10,7 @@ use Rattle.mc_proxy.specs.SessionState.{SessionState, answered, link_at}
 use Rattle.mc_proxy.specs.ProxyState.{ProxyState, session_at}
 use Rattle.mc_account.specs.Answered.{AreAnswers}
 use Rattle.mc_account.specs.Lookups.{IsBefore, IsRoutedWithin, asked_at, command_at, outcome_at}
-use Rattle.mc_account.specs.Orders.{Entry as Asked, Order}
+use Rattle.mc_account.specs.Orders.{Order, TakenRequest}
 use Rattle.mc_history.specs.Histories.{tag_in}
 use Rattle.mc_history.specs.declared.entries.Entry.{Entry}
 use Rattle.mc_world.specs.Accounts.{IsToldLost, NotAnswered, WasTaken, up_when_taken}
@@ -52,8 +52,8 @@ pub record ServersHold (opening : RingState) (log : Log) (pool : PoolState) : Ty
 -- Requests that were taken: by the turns of the log, in their order, each routed by the ring of its moment, to one of this number
 -- of places.
 pub record RequestsHold (opening : RingState) (places : ℕ) (order : Order) (log : Log) : Type 0 where
-  pub turns : map (λ (e : Asked). e.session) order ≡ turns_of log
-  pub rings : (client request : ℕ) (e : Asked) → asked_at order client request ≡ Some e → IsRingAfter opening (before (takes client) request log) e.ring
+  pub turns : map (λ (e : TakenRequest). e.session) order ≡ turns_of log
+  pub rings : (client request : ℕ) (e : TakenRequest) → asked_at order client request ≡ Some e → IsRingAfter opening (before (takes client) request log) e.ring
   pub inside : All (IsRoutedWithin places) order
 
 -- The bytes emitted to each client are the answers to its first requests, one for each put, and each request was taken before. An

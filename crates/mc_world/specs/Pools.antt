@@ -15,7 +15,7 @@ use Rattle.mc_proxy.specs.LinkTurns.{Answers, lost_at}
 use Rattle.mc_proxy.specs.ProxyState.{sent_by, session_at, without}
 use Rattle.mc_proxy.specs.Turns.{Alone, Steps}
 use Rattle.mc_account.specs.Lanes.{Lane}
-use Rattle.mc_account.specs.Orders.{Entry as Asked, Order}
+use Rattle.mc_account.specs.Orders.{Order, TakenRequest}
 use Rattle.mc_account.specs.Holds.{ProxyHolds}
 use Rattle.mc_world.specs.Happens.{Arrives, ArrivesLate, ComesBack, Ends, Enters, EntersLate, returned, taken_one}
 use Rattle.mc_world.specs.Sites.{SiteHolds}
@@ -31,7 +31,7 @@ pub record TakesRequest (client : ℕ) (old new : PoolState) : Type 0 where
   pub sites : new.sites ≡ old.sites
 
 -- the request that was taken, as the order has it
-abbrev pub asked_by : {client : ℕ} {old new : PoolState} → TakesRequest client old new → Asked
+abbrev pub asked_by : {client : ℕ} {old new : PoolState} → TakesRequest client old new → TakenRequest
 asked_by {client = client} {old = old} taking = record {
   session = client;
   request = taking.steps.before.taken;
