@@ -23,7 +23,7 @@ use Rattle.mc_cache.specs.CacheState.{CacheState}
 use Rattle.mc_cache.specs.Refusals.{is_refusal}
 use Rattle.mc_cache.specs.Replay.{Command, replies}
 use Rattle.mc_cache.specs.Step.{step_of}
-use Rattle.mc_server.specs.Served.{Entry as Taking, IsLegalAt, answer_after, commands_of, tells_refusal}
+use Rattle.mc_server.specs.Served.{IsLegalAt, ServedRequest, answer_after, commands_of, tells_refusal}
 use Rattle.mc_account.proofs.OpenSessions.{own_number}
 
 -- texts that differ at a place
@@ -157,35 +157,35 @@ one_tells reply = elim (is_refusal reply) as (λ v. (v || false) ≡ v) [
 ]
 
 -- the command of an entry that was spelled to the server, as its cache has it
-abbrev pub command_by : Taking → Atom (List ℕ) → Command
+abbrev pub command_by : ServedRequest → Atom (List ℕ) → Command
 command_by e atom = record { atom = atom; moment = e.moment; refused = e.refused }
 
-one_command : (e : Taking) (atom : Atom (List ℕ)) → e.what ≡ Whole (request_of atom) → commands_of e ≡ command_by e atom ∷ []
+one_command : (e : ServedRequest) (atom : Atom (List ℕ)) → e.what ≡ Whole (request_of atom) → commands_of e ≡ command_by e atom ∷ []
 one_command e atom is =
     ap (λ (what : Taken). commands_of (record e { what = what })) is
     ∙ ap (λ (ones : List (Atom (List ℕ))). map (command_by e) ones) (one_atom atom)
 
 -- the answer to such an entry, and its refusal
-entry_answer : (s : CacheState) (e : Taking) (atom : Atom (List ℕ)) → e.what ≡ Whole (request_of atom) → is_good_atom atom ≡ true
+entry_answer : (s : CacheState) (e : ServedRequest) (atom : Atom (List ℕ)) → e.what ≡ Whole (request_of atom) → is_good_atom atom ≡ true
     → can_have atom (step_of s atom e.moment e.refused).1 ≡ true → answer_after s e ≡ spelling_of atom (step_of s atom e.moment e.refused).1
 entry_answer s e atom is good can =
     ap (λ (cs : List Command). answer e.what (replies s cs)) (one_command e atom is)
     ∙ ap (λ (what : Taken). answer what ((step_of s atom e.moment e.refused).1 ∷ [])) is
     ∙ answer_of-spelled atom (step_of s atom e.moment e.refused).1 good can
 
-pub entry_refused : (s : CacheState) (e : Taking) (atom : Atom (List ℕ)) → e.what ≡ Whole (request_of atom) → IsLegalAt s e
+pub entry_refused : (s : CacheState) (e : ServedRequest) (atom : Atom (List ℕ)) → e.what ≡ Whole (request_of atom) → IsLegalAt s e
     → e.refused ≡ is_refusal (step_of s atom e.moment e.refused).1
 entry_refused s e atom is legal =
     legal.1 ∙ ap (λ (cs : List Command). tells_refusal (replies s cs)) (one_command e atom is) ∙ one_tells (step_of s atom e.moment e.refused).1
 
 -- the answer says whether memory was refused
-pub told_by_line : (s : CacheState) (e : Taking) (atom : Atom (List ℕ)) → e.what ≡ Whole (request_of atom) → is_good_atom atom ≡ true
+pub told_by_line : (s : CacheState) (e : ServedRequest) (atom : Atom (List ℕ)) → e.what ≡ Whole (request_of atom) → is_good_atom atom ≡ true
     → can_have atom (step_of s atom e.moment e.refused).1 ≡ true → IsLegalAt s e → answer_after s e ≡ fault_line OutOfMemory → e.refused ≡ true
 told_by_line s e atom is good can legal line =
     entry_refused s e atom is legal
     ∙ refusal_spelled atom (step_of s atom e.moment e.refused).1 can (sym (entry_answer s e atom is good can) ∙ line)
 
-pub line_of_told : (s : CacheState) (e : Taking) (atom : Atom (List ℕ)) → e.what ≡ Whole (request_of atom) → is_good_atom atom ≡ true
+pub line_of_told : (s : CacheState) (e : ServedRequest) (atom : Atom (List ℕ)) → e.what ≡ Whole (request_of atom) → is_good_atom atom ≡ true
     → can_have atom (step_of s atom e.moment e.refused).1 ≡ true → IsLegalAt s e → e.refused ≡ true → answer_after s e ≡ fault_line OutOfMemory
 line_of_told s e atom is good can legal refused =
     entry_answer s e atom is good can

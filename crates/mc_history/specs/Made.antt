@@ -10,7 +10,7 @@ use Rattle.mc_cache.specs.CacheState.{CacheState}
 use Rattle.mc_cache.specs.Memory.{may_refuse}
 use Rattle.mc_cache.specs.Refusals.{is_refusal}
 use Rattle.mc_cache.specs.Step.{step_of}
-use Rattle.mc_server.specs.Served.{Entry as Taking}
+use Rattle.mc_server.specs.Served.{ServedRequest}
 use Rattle.mc_account.specs.Orders.{Tagged}
 use Rattle.mc_history.specs.declared.entries.Entry.{Entry}
 
@@ -27,7 +27,7 @@ abbrev pub read_as : Tagged → Taken
 read_as command = Whole (request_of command.0)
 
 -- the command as the server's history has it, and as the world's has it
-abbrev pub taking_of : Made → Taking
+abbrev pub taking_of : Made → ServedRequest
 taking_of m = record { connection = m.connection; what = read_as m.command; moment = m.moment; refused = m.refused }
 
 abbrev pub entry_of : Made → Entry

@@ -9,7 +9,7 @@ ghost use Rattle.mc_codec.specs.Spellings.{is_good_atom, request_of};
 ghost use Rattle.mc_link.specs.LinkState.{LinkState};
 ghost use Rattle.mc_cache.specs.CacheState.{CacheState};
 ghost use Rattle.mc_cache.specs.Step.{step_of};
-ghost use Rattle.mc_server.specs.Served.{Entry as Taking, IsLegalAt, answer_after};
+ghost use Rattle.mc_server.specs.Served.{IsLegalAt, ServedRequest, answer_after};
 ghost use Rattle.mc_server.specs.ServerState.{ConnectionState};
 ghost use Rattle.mc_account.specs.Lanes.{Lane};
 ghost use Rattle.mc_account.specs.Orders.{Order, Tagged};
@@ -27,8 +27,8 @@ pub fn generations_carry()
 /// Memory was refused to a command that was spelled to a server exactly if its answer is the line for lack of memory. This holds if its
 /// reply is one that it can have.
 pub fn refusals_are_told_by_their_line()
-    ensures refused { (s : CacheState) (e : Taking) (atom : Atom (List ℕ)) → e.what ≡ Whole (request_of atom) → is_good_atom atom ≡ true
+    ensures refused { (s : CacheState) (e : ServedRequest) (atom : Atom (List ℕ)) → e.what ≡ Whole (request_of atom) → is_good_atom atom ≡ true
         → can_have atom (step_of s atom e.moment e.refused).1 ≡ true → IsLegalAt s e → answer_after s e ≡ fault_line OutOfMemory → e.refused ≡ true }
-    ensures line { (s : CacheState) (e : Taking) (atom : Atom (List ℕ)) → e.what ≡ Whole (request_of atom) → is_good_atom atom ≡ true
+    ensures line { (s : CacheState) (e : ServedRequest) (atom : Atom (List ℕ)) → e.what ≡ Whole (request_of atom) → is_good_atom atom ≡ true
         → can_have atom (step_of s atom e.moment e.refused).1 ≡ true → IsLegalAt s e → e.refused ≡ true → answer_after s e ≡ fault_line OutOfMemory }
 {}

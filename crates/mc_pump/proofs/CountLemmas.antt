@@ -4,7 +4,7 @@ use Rattle.std.proofs.lemmas.List.{length-append}
 use Rattle.std.proofs.Math.Nat.{mod-add-mod, mod-mod}
 use Rattle.std.proofs.Math.Seq.{drop-append_seam}
 use Rattle.mc_cache.specs.CacheState.{CacheState}
-use Rattle.mc_server.specs.Served.{Entry, answer_after, cache_after}
+use Rattle.mc_server.specs.Served.{ServedRequest, answer_after, cache_after}
 use Rattle.mc_server.specs.Histories.{replayed}
 use Rattle.mc_server.specs.ServerState.{Connections, ServerState, connection_at, connection_in, output_of}
 use Rattle.mc_server.specs.Turns.{IsTurn, Steps}
@@ -30,14 +30,14 @@ sum_of_one : (m a b x : ℕ) → b ≡ (a + x) % m → b % m ≡ (a + (x + 0)) %
 sum_of_one m a b x e = ap (λ (n : ℕ). n % m) e ∙ mod-mod (a + x) m ∙ ap (λ (n : ℕ). n % m) (omega arith)
 
 -- a history and another one after it
-refusals-append : (s : CacheState) (es fs : List Entry) → refusals_in s (es ++ fs) ≡ refusals_in s es + refusals_in (replayed s es) fs
+refusals-append : (s : CacheState) (es fs : List ServedRequest) → refusals_in s (es ++ fs) ≡ refusals_in s es + refusals_in (replayed s es) fs
 refusals-append s [] fs = omega arith
 refusals-append s (e ∷ es) fs = let again = refusals-append (cache_after s e) es fs in omega (arith, again)
 
 -- nothing was taken, and the count is as it was
-pub counts_still : (s : CacheState) (history : List Entry) (count count' : ℕ) → history ≡ [] → count' ≡ count → Counts s history count count'
+pub counts_still : (s : CacheState) (history : List ServedRequest) (count count' : ℕ) → history ≡ [] → count' ≡ count → Counts s history count count'
 counts_still s history count count' none same =
-    let P : List Entry → Type 0 = λ es. Counts s es count count in
+    let P : List ServedRequest → Type 0 = λ es. Counts s es count count in
     let Q : ℕ → Type 0 = λ n. Counts s history count n in
     subst Q (sym same) (subst P (sym none) (sum_stays (2 ^ 64) count))
 
@@ -52,7 +52,7 @@ counts_then number moment count between count' a b c came more went yet h k firs
     let all : refusals_in a.cache (h.history ++ k.history) ≡ refusals_in a.cache h.history + refusals_in b.cache k.history =
     refusals-append a.cache h.history k.history ∙ ap (λ (n : ℕ). refusals_in a.cache h.history + n) (sym later) in
     let P : ℕ → Type 0 = λ n. count' % 2 ^ 64 ≡ (count + n) % 2 ^ 64 in
-    let Q : List Entry → Type 0 = λ es. Counts a.cache es count count' in
+    let Q : List ServedRequest → Type 0 = λ es. Counts a.cache es count count' in
     subst Q (sym joined) (subst P (sym all) (sum_goes_on (2 ^ 64) count between count' (refusals_in a.cache h.history) (refusals_in b.cache k.history) first second))
 
 -- no turn was taken yet
@@ -112,7 +112,7 @@ turn_took number moment count count' answer old new steps below is counted =
     let own : answer ≡ answer_after old.cache (taken_entry number moment old new steps) =
     is ∙ ap (λ (bytes : List ℕ). drop (length (output_of (connection_at old number))) bytes) (turn_output number moment old new steps)
     ∙ drop-append_seam (output_of (connection_at old number)) (answer_after old.cache (taken_entry number moment old new steps)) in
-    let P : List Entry → Type 0 = λ es. Counts old.cache es count count' in
+    let P : List ServedRequest → Type 0 = λ es. Counts old.cache es count count' in
     let Q : List ℕ → Type 0 = λ bytes. count' % 2 ^ 64 ≡ (count + (refusal_in bytes + 0)) % 2 ^ 64 in
     record {
       stretch = stretch_took number moment old new steps below;

@@ -5,7 +5,7 @@ use Rattle.std.proofs.lemmas.List.{append-nil, append_cancel_left}
 use Rattle.std.specs.Io.KnownBytes.{Appends}
 use Rattle.mc_request_reader.specs.Reader.{rest_of}
 use Rattle.mc_cache.specs.CacheState.{CacheState}
-use Rattle.mc_server.specs.Served.{Entry, IsServed, answer_after}
+use Rattle.mc_server.specs.Served.{IsServed, ServedRequest, answer_after}
 use Rattle.mc_server.specs.ServerState.{ConnectionState, Connections, ServerState, connection_at, connection_in, output_of, updated, sent_by}
 use Rattle.mc_server.specs.Turns.{IsTurn, Steps, waiting_of}
 use Rattle.mc_server.specs.Gathers.{TakesOut}
@@ -172,10 +172,10 @@ gathers_out number moment went count old new written written' steps some below =
     let sent = then_sent number moment went old new written written' steps in
     let took = stretch_took number moment old middle first below in
     let shown = put.shown some in
-    let e : Entry = taken_entry number moment old middle first in
+    let e : ServedRequest = taken_entry number moment old middle first in
     let none : refusal_in (answer_after old.cache e) ≡ 0 =
     no_refusal steps.before.output (answer_after old.cache e) shown.0 (sym put.served.1.answered ∙ shown.1) in
-    let P : List Entry → Type 0 = λ es. Counts old.cache es count count in
+    let P : List ServedRequest → Type 0 = λ es. Counts old.cache es count count in
     let counted : Counts old.cache took.history count count =
     subst P (sym (took_takes_one number moment old middle first below)) (count_stays (2 ^ 64) count (refusal_in (answer_after old.cache e)) none) in
     record {

@@ -5,7 +5,7 @@ use Rattle.mc_request.specs.declared.parts.Taken.{Taken}
 use Rattle.mc_request.specs.Requests.{requests_of}
 use Rattle.mc_request_reader.specs.Reader.{rest_of}
 use Rattle.mc_cache.specs.CacheState.{CacheState}
-use Rattle.mc_server.specs.Served.{Entry, cache_after}
+use Rattle.mc_server.specs.Served.{ServedRequest, cache_after}
 use Rattle.mc_server.specs.Histories.{answers_to, taken_of, replayed, IsLegalHistory}
 use Rattle.mc_server.specs.ServerState.{ServerState}
 use Rattle.mc_server.specs.Holds.{IsReplayed, Holds, ServerHolds, grown}
@@ -14,19 +14,19 @@ use Rattle.mc_server.proofs.HoldsLemmas.{SameFor, grown-own, grown-other, steppe
 use Rattle.mc_pump.specs.Stretches.{AreOwn, Stretch}
 
 -- entries of one number say nothing of another
-none_taken : (number moment other : ℕ) (es : List Entry) → number ≢ other → AreOwn number moment es → taken_of other es ≡ []
+none_taken : (number moment other : ℕ) (es : List ServedRequest) → number ≢ other → AreOwn number moment es → taken_of other es ≡ []
 none_taken number moment other [] differ own = refl
 none_taken number moment other (e ∷ es) differ own =
     let not_its : (e.connection == other) ≡ false = rw own.0 (other_number number other differ) in
     rw not_its (none_taken number moment other es differ own.2)
 
-none_answered : (number moment other : ℕ) (s : CacheState) (es : List Entry) → number ≢ other → AreOwn number moment es → answers_to other s es ≡ []
+none_answered : (number moment other : ℕ) (s : CacheState) (es : List ServedRequest) → number ≢ other → AreOwn number moment es → answers_to other s es ≡ []
 none_answered number moment other s [] differ own = refl
 none_answered number moment other s (e ∷ es) differ own =
     let not_its : (e.connection == other) ≡ false = rw own.0 (other_number number other differ) in
     rw not_its (none_answered number moment other (cache_after s e) es differ own.2)
 
-same_for_others : (opening : CacheState) (number moment other : ℕ) (history es : List Entry) → number ≢ other → AreOwn number moment es → SameFor opening other history (history ++ es)
+same_for_others : (opening : CacheState) (number moment other : ℕ) (history es : List ServedRequest) → number ≢ other → AreOwn number moment es → SameFor opening other history (history ++ es)
 same_for_others opening number moment other history es differ own = (
   taken-append other history es ∙ ap (λ (ts : List Taken). taken_of other history ++ ts) (none_taken number moment other es differ own) ∙ append-nil (taken_of other history),
   answers-append other opening history es ∙ ap (λ (bytes : List ℕ). answers_to other opening history ++ bytes) (none_answered number moment other (replayed opening history) es differ own)
@@ -34,14 +34,14 @@ same_for_others opening number moment other history es differ own = (
 )
 
 -- the cache after a stretch
-replayed_after : (opening middle now : CacheState) (history more : List Entry) → IsReplayed opening history middle → IsReplayed middle more now → IsReplayed opening (history ++ more) now
+replayed_after : (opening middle now : CacheState) (history more : List ServedRequest) → IsReplayed opening history middle → IsReplayed middle more now → IsReplayed opening (history ++ more) now
 replayed_after opening middle now history more h k = record {
   legal = legal-append opening history more h.legal (subst (λ (s : CacheState). IsLegalHistory s more) h.cache k.legal);
   cache = k.cache ∙ ap (λ (s : CacheState). replayed s more) h.cache ∙ sym (replayed-append opening history more);
 }
 
 -- the connection of a stretch
-holds_after : (opening : CacheState) (number moment : ℕ) (text : List ℕ) (history : List Entry) (sent : List ℕ) (old new : ServerState) (came went : List ℕ) (stretch : Stretch number moment old new came went)
+holds_after : (opening : CacheState) (number moment : ℕ) (text : List ℕ) (history : List ServedRequest) (sent : List ℕ) (old new : ServerState) (came went : List ℕ) (stretch : Stretch number moment old new came went)
     → IsReplayed opening history old.cache → Holds opening number text history sent stretch.before → Holds opening number (text ++ came) (history ++ stretch.history) (sent ++ went) stretch.after
 holds_after opening number moment text history sent old new came went stretch replay h =
     let more = stretch.history in
@@ -62,7 +62,7 @@ holds_after opening number moment text history sent old new came went stretch re
     }
 
 -- the server
-pub holds_after_stretch : (opening : CacheState) (texts sent : ℕ → List ℕ) (history : List Entry) (number moment : ℕ) (old new : ServerState) (came went : List ℕ)
+pub holds_after_stretch : (opening : CacheState) (texts sent : ℕ → List ℕ) (history : List ServedRequest) (number moment : ℕ) (old new : ServerState) (came went : List ℕ)
     → ServerHolds opening texts sent history old → (stretch : Stretch number moment old new came went)
     → ServerHolds opening (grown number came texts) (grown number went sent) (history ++ stretch.history) new
 holds_after_stretch opening texts sent history number moment old new came went h stretch =

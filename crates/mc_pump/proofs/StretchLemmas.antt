@@ -4,7 +4,7 @@ use Rattle.std.proofs.lemmas.List.{append-nil, take-append-drop}
 use Rattle.mc_request.specs.declared.parts.Taken.{Taken}
 use Rattle.mc_request_reader.specs.Reader.{rest_of}
 use Rattle.mc_cache.specs.CacheState.{CacheState}
-use Rattle.mc_server.specs.Served.{Entry, answer_after}
+use Rattle.mc_server.specs.Served.{ServedRequest, answer_after}
 use Rattle.mc_server.specs.Histories.{replayed, answers_to, taken_of, IsLegalHistory}
 use Rattle.mc_server.specs.ServerState.{ConnectionState, Connections, ServerState, connection_at, connection_in, output_of, updated, sent_by}
 use Rattle.mc_server.specs.Turns.{Feeds, IsTurn, Steps}
@@ -35,7 +35,7 @@ updated-twice number first second (x ∷ xs) =
       | false ↦ λ is. rw is (ap (λ (others : Connections). x ∷ others) again)
     ]) refl
 
-own-append : (number moment : ℕ) (es fs : List Entry) → AreOwn number moment es → AreOwn number moment fs → AreOwn number moment (es ++ fs)
+own-append : (number moment : ℕ) (es fs : List ServedRequest) → AreOwn number moment es → AreOwn number moment fs → AreOwn number moment (es ++ fs)
 own-append number moment [] fs h k = k
 own-append number moment (e ∷ es) fs h k = (h.0, h.1, own-append number moment es fs h.2 k)
 
@@ -60,14 +60,14 @@ unfolding stretch_none
 none_takes_none number moment s c was = refl
 
 -- the entry of a turn that took something
-abbrev pub taken_entry : (number moment : ℕ) (old new : ServerState) → Steps number old new (IsTurn number moment Took) → Entry
+abbrev pub taken_entry : (number moment : ℕ) (old new : ServerState) → Steps number old new (IsTurn number moment Took) → ServedRequest
 taken_entry number moment old new steps = record { connection = number; what = steps.step.0; moment = moment; refused = steps.step.1.served.0 }
 
 -- a turn took something
 pub stretch_took : (number moment : ℕ) (old new : ServerState) → Steps number old new (IsTurn number moment Took) → length (output_of (connection_at old number)) < UNSENT_MARK → Stretch number moment old new [] []
 stretch_took number moment old new steps below =
     let takes = steps.step.1 in
-    let e : Entry = record { connection = number; what = steps.step.0; moment = moment; refused = takes.served.0 } in
+    let e : ServedRequest = record { connection = number; what = steps.step.0; moment = moment; refused = takes.served.0 } in
     let few : length steps.before.output < UNSENT_MARK = subst (λ (c : Option ConnectionState). length (output_of c) < UNSENT_MARK) steps.was below in
     let own = own_number number in
     record {
@@ -222,10 +222,10 @@ past number moment a b c came more went yet h k same =
           let first = h.marked above parts.0 in
           let unsent : h.after.output ≡ h.before.output =
           subst (λ (bytes : List ℕ). bytes ++ h.after.output ≡ h.before.output ++ answers_to number a.cache h.history) parts.0 h.answered
-          ∙ ap (λ (es : List Entry). h.before.output ++ answers_to number a.cache es) first.0 ∙ append-nil h.before.output in
+          ∙ ap (λ (es : List ServedRequest). h.before.output ++ answers_to number a.cache es) first.0 ∙ append-nil h.before.output in
           let still : UNSENT_MARK ≤ length k.before.output = subst (λ (bytes : List ℕ). UNSENT_MARK ≤ length bytes) (sym unsent ∙ middle) above in
           let second = k.marked still parts.1 in
-          (ap (λ (es : List Entry). es ++ k.history) first.0 ∙ second.0, ap (λ (bytes : List ℕ). bytes ++ more) first.1 ∙ second.1);
+          (ap (λ (es : List ServedRequest). es ++ k.history) first.0 ∙ second.0, ap (λ (bytes : List ℕ). bytes ++ more) first.1 ∙ second.1);
     }
 
 -- one stretch after another

@@ -4,17 +4,17 @@ use Rattle.std.specs.Str.{bytes_eq}
 use Rattle.mc_request.specs.Faults.{fault_line}
 use Rattle.mc_request.specs.declared.faults.Fault.TheVariants.{OutOfMemory}
 use Rattle.mc_cache.specs.CacheState.{CacheState}
-use Rattle.mc_server.specs.Served.{Entry, answer_after, cache_after}
+use Rattle.mc_server.specs.Served.{ServedRequest, answer_after, cache_after}
 
 -- one for an answer that is the line for lack of memory, and nothing else
 abbrev pub refusal_in : List ℕ → ℕ
 refusal_in answer = if bytes_eq answer (fault_line OutOfMemory) then 1 else 0
 
 -- how many entries of a history have this answer
-abbrev pub refusals_in : CacheState → List Entry → ℕ
+abbrev pub refusals_in : CacheState → List ServedRequest → ℕ
 refusals_in s [] = 0
 refusals_in s (e ∷ es) = refusal_in (answer_after s e) + refusals_in (cache_after s e) es
 
 -- a count of 64 bits goes up by one for each entry of a history that has this answer, and by nothing else
-abbrev pub Counts : CacheState → List Entry → ℕ → ℕ → Type 0
+abbrev pub Counts : CacheState → List ServedRequest → ℕ → ℕ → Type 0
 Counts s history count count' = count' % 2 ^ 64 ≡ (count + refusals_in s history) % 2 ^ 64

@@ -1,7 +1,7 @@
 //! A law of stretches (one connection's calls of a pump). The function does nothing: its contract is the law.
 ghost use Rattle.std.specs.Prelude.{ℕ, List, ◌++◌};
 ghost use Rattle.mc_cache.specs.CacheState.{CacheState};
-ghost use Rattle.mc_server.specs.Served.{Entry};
+ghost use Rattle.mc_server.specs.Served.{ServedRequest};
 ghost use Rattle.mc_server.specs.ServerState.{ServerState};
 ghost use Rattle.mc_server.specs.Holds.{ServerHolds, grown};
 ghost use Rattle.mc_pump.specs.Stretches.{Stretch};
@@ -9,7 +9,7 @@ ghost use Rattle.mc_pump.specs.Stretches.{Stretch};
 /// A server that is as a history leaves it, is after a stretch as that history and the stretch's leave it. Its
 /// connection's text has grown by the bytes that arrived, and its sent bytes by those that the writer took.
 pub fn servers_hold_after_a_stretch()
-    ensures { (opening : CacheState) (texts sent : ℕ → List ℕ) (history : List Entry) (number moment : ℕ) (old new : ServerState) (came went : List ℕ)
+    ensures { (opening : CacheState) (texts sent : ℕ → List ℕ) (history : List ServedRequest) (number moment : ℕ) (old new : ServerState) (came went : List ℕ)
         → ServerHolds opening texts sent history old → (stretch : Stretch number moment old new came went)
         → ServerHolds opening (grown number came texts) (grown number went sent) (history ++ stretch.history) new }
 {}

@@ -11,7 +11,7 @@ use Rattle.mc_request.specs.declared.parts.Taken.{Taken}
 use Rattle.mc_request.specs.Requests.{requests_of}
 use Rattle.mc_request.proofs.RequestLemmas.{goes_on}
 use Rattle.mc_cache.specs.CacheState.{CacheState}
-use Rattle.mc_server.specs.Served.{Entry, IsLegalAt, answer_after, cache_after}
+use Rattle.mc_server.specs.Served.{IsLegalAt, ServedRequest, answer_after, cache_after}
 use Rattle.mc_server.specs.Histories.{IsLegalHistory, answers_to, replayed, taken_of, turns_of}
 use Rattle.mc_server.proofs.HistoryLemmas.{own_number, other_number, legal-push, taken-push}
 use Rattle.mc_server.proofs.RefusalLemmas.{granted_is_legal, refusal_is_told}
@@ -22,11 +22,11 @@ use Rattle.mc_script.specs.Events.{IsEventOf}
 use Rattle.mc_script.specs.Scripts.{ScriptSeen}
 use Rattle.mc_script.proofs.HistoryLemmas.{text_more, text_turn, taken_by, served_one, served_none}
 
-abbrev entry : ℕ → Taken → ℕ → Bool → Entry
+abbrev entry : ℕ → Taken → ℕ → Bool → ServedRequest
 entry connection what moment refused = record { connection = connection; what = what; moment = moment; refused = refused }
 
 -- the requests that were taken of a connection first, and after it
-head_taken : (x y : Entry) (xs ys : List Entry) → x.connection ≡ y.connection → taken_of x.connection (x ∷ xs) ≡ taken_of x.connection (y ∷ ys) → x.what ≡ y.what
+head_taken : (x y : ServedRequest) (xs ys : List ServedRequest) → x.connection ≡ y.connection → taken_of x.connection (x ∷ xs) ≡ taken_of x.connection (y ∷ ys) → x.what ≡ y.what
 head_taken x y xs ys same h =
     let first : taken_of x.connection (x ∷ xs) ≡ x.what ∷ taken_of x.connection xs = rw (own_number x.connection) refl in
     let test : (y.connection == x.connection) ≡ true = rw (← same) (own_number x.connection) in
@@ -34,7 +34,7 @@ head_taken x y xs ys same h =
     let both : x.what ∷ taken_of x.connection xs ≡ y.what ∷ taken_of x.connection ys = sym first ∙ h ∙ second in
     cc
 
-tail_taken : (number : ℕ) (x y : Entry) (xs ys : List Entry) → x.connection ≡ y.connection → taken_of number (x ∷ xs) ≡ taken_of number (y ∷ ys) → taken_of number xs ≡ taken_of number ys
+tail_taken : (number : ℕ) (x y : ServedRequest) (xs ys : List ServedRequest) → x.connection ≡ y.connection → taken_of number (x ∷ xs) ≡ taken_of number (y ∷ ys) → taken_of number xs ≡ taken_of number ys
 tail_taken number x y xs ys same h =
     let again : taken_of number (y ∷ ys) ≡ (if x.connection == number then y.what ∷ taken_of number ys else taken_of number ys) =
     ap (λ (n : ℕ). if n == number then y.what ∷ taken_of number ys else taken_of number ys) (sym same) in
@@ -44,7 +44,8 @@ tail_taken number x y xs ys same h =
     ]) (h ∙ again)
 
 -- entries are determined by what was taken of each connection, by which turns, and by what was refused
-same_entries : (a b : List Entry) → ((number : ℕ) → taken_of number a ≡ taken_of number b) → turns_of a ≡ turns_of b → refusals_of a ≡ refusals_of b → a ≡ b
+same_entries : (a b : List ServedRequest) → ((number : ℕ) → taken_of number a ≡ taken_of number b) → turns_of a ≡ turns_of b → refusals_of a ≡ refusals_of b
+    → a ≡ b
 same_entries [] [] t m r = refl
 same_entries [] (y ∷ ys) t m r = absurd cc
 same_entries (x ∷ xs) [] t m r = absurd cc
@@ -59,7 +60,7 @@ same_entries (x ∷ xs) (y ∷ ys) t m r =
     let others : xs ≡ ys = same_entries xs ys (λ number. tail_taken number x y xs ys connection (t number)) (cc) (cc) in
     let same : x ≡ y = ap (λ (c : ℕ). entry c x.what x.moment x.refused) connection ∙ ap (λ (w : Taken). entry y.connection w x.moment x.refused) what
     ∙ ap (λ (n : ℕ). entry y.connection y.what n x.refused) moment ∙ ap (λ (b : Bool). entry y.connection y.what y.moment b) refused in
-    ap (λ (e : Entry). e ∷ xs) same ∙ ap (λ (es : List Entry). y ∷ es) others
+    ap (λ (e : ServedRequest). e ∷ xs) same ∙ ap (λ (es : List ServedRequest). y ∷ es) others
 
 -- for given refusals of memory, the outputs that answer a script are one list
 pub one_answer : (script : ScriptSeen) (a b : List (List ℕ)) (x : Answers script a) (y : Answers script b) → refusals_of x.history ≡ refusals_of y.history → a ≡ b
@@ -70,10 +71,11 @@ one_answer script a b x y same =
     let taken : (number : ℕ) → taken_of number x.history ≡ taken_of number y.history =
     λ number. x.taken number ∙ ap (λ (n : ℕ). take n (requests_of (text_fed number script.events))) (size number) ∙ sym (y.taken number) in
     let entries = same_entries x.history y.history taken turns same in
-    x.answered ∙ ap (λ (es : List Entry). map (λ number. answers_to number (cache_of script) es) (range_with_len 0 script.connections)) entries ∙ sym y.answered
+    x.answered ∙ ap (λ (es : List ServedRequest). map (λ number. answers_to number (cache_of script) es) (range_with_len 0 script.connections)) entries
+    ∙ sym y.answered
 
 -- a history that the first events allow, in which memory was refused to no store
-record Grants (opening : CacheState) (events : List ServerEvent) (history : List Entry) : Type 0 where
+record Grants (opening : CacheState) (events : List ServerEvent) (history : List ServedRequest) : Type 0 where
   legal : IsLegalHistory opening history
   taken : (number : ℕ) → taken_of number history ≡ take (length (taken_of number history)) (requests_of (text_fed number events))
   granted : All (λ refused. refused ≡ false) (refusals_of history)
@@ -95,7 +97,7 @@ grants_none : (opening : CacheState) → Grants opening [] []
 grants_none opening = record { legal = tt; taken = λ number. refl; granted = λ k d inside. absurd (omega arith) }
 
 -- bytes arrive
-grants_bytes : (opening : CacheState) (events : List ServerEvent) (history : List Entry) (connection : ℕ) (bytes : List ℕ) → Grants opening events history → Grants opening (events ++ Bytes connection bytes ∷ []) history
+grants_bytes : (opening : CacheState) (events : List ServerEvent) (history : List ServedRequest) (connection : ℕ) (bytes : List ℕ) → Grants opening events history → Grants opening (events ++ Bytes connection bytes ∷ []) history
 grants_bytes opening events history connection bytes h = record {
   legal = h.legal;
   taken = λ number.
@@ -106,7 +108,7 @@ grants_bytes opening events history connection bytes h = record {
 }
 
 -- a turn finds none
-grants_idle : (opening : CacheState) (events : List ServerEvent) (history : List Entry) (connection moment : ℕ) → Grants opening events history → Grants opening (events ++ Turn connection moment ∷ []) history
+grants_idle : (opening : CacheState) (events : List ServerEvent) (history : List ServedRequest) (connection moment : ℕ) → Grants opening events history → Grants opening (events ++ Turn connection moment ∷ []) history
 grants_idle opening events history connection moment h = record {
   legal = h.legal;
   taken = λ number. h.taken number ∙ ap (λ (text : List ℕ). take (length (taken_of number history)) (requests_of text)) (sym (text_turn number connection moment events));
@@ -114,11 +116,12 @@ grants_idle opening events history connection moment h = record {
 }
 
 -- a turn takes the next request
-grants_turn : (opening : CacheState) (events : List ServerEvent) (history : List Entry) (connection moment : ℕ) (what : Taken) → Grants opening events history
+grants_turn : (opening : CacheState) (events : List ServerEvent) (history : List ServedRequest) (connection moment : ℕ) (what : Taken)
+    → Grants opening events history
     → take (length (taken_of connection history) + 1) (requests_of (text_fed connection events)) ≡ take (length (taken_of connection history)) (requests_of (text_fed connection events)) ++ what ∷ []
     → Grants opening (events ++ Turn connection moment ∷ []) (history ++ (record { connection = connection; what = what; moment = moment; refused = false }) ∷ [])
 grants_turn opening events history connection moment what h next =
-    let e : Entry = record { connection = connection; what = what; moment = moment; refused = false } in
+    let e : ServedRequest = record { connection = connection; what = what; moment = moment; refused = false } in
     let longer = history ++ e ∷ [] in
     let own : taken_of connection longer ≡ taken_of connection history ++ what ∷ [] = taken-push connection history e ∙ rw (own_number connection) refl in
     let size : length (taken_of connection longer) ≡ length (taken_of connection history) + 1 = ap length own ∙ length-append (taken_of connection history) (what ∷ []) in
@@ -135,17 +138,17 @@ grants_turn opening events history connection moment what h next =
           (λ is. beside number is.1)
           (eqb_tells connection number)
           ∙ ap (λ (text : List ℕ). take (length (taken_of number longer)) (requests_of text)) (sym (text_turn number connection moment events));
-      granted = subst (λ (bs : List Bool). All (λ refused. refused ≡ false) bs) (sym (map-append (λ (x : Entry). x.refused) history (e ∷ [])))
+      granted = subst (λ (bs : List Bool). All (λ refused. refused ≡ false) bs) (sym (map-append (λ (x : ServedRequest). x.refused) history (e ∷ [])))
           (All-push (λ refused. refused ≡ false) (refusals_of history) false h.granted refl);
     }
 
 -- a history grows by an event
-record GoesOn (opening : CacheState) (events : List ServerEvent) (event : ServerEvent) (history : List Entry) : Type 0 where
-  longer : List Entry
+record GoesOn (opening : CacheState) (events : List ServerEvent) (event : ServerEvent) (history : List ServedRequest) : Type 0 where
+  longer : List ServedRequest
   grants : Grants opening (events ++ event ∷ []) longer
   turns : turns_of longer ≡ served_with events (turns_of history) event
 
-turn_goes_on : (opening : CacheState) (events : List ServerEvent) (history : List Entry) (connection moment : ℕ) (finds : Bool) → finds_one connection events (turns_of history) ≡ finds → Grants opening events history
+turn_goes_on : (opening : CacheState) (events : List ServerEvent) (history : List ServedRequest) (connection moment : ℕ) (finds : Bool) → finds_one connection events (turns_of history) ≡ finds → Grants opening events history
     → GoesOn opening events (Turn connection moment) history
 turn_goes_on opening events history connection moment false is h = record {
   longer = history;
@@ -155,25 +158,25 @@ turn_goes_on opening events history connection moment false is h = record {
 turn_goes_on opening events history connection moment true is h =
     let inside : length (taken_of connection history) < length (requests_of (text_fed connection events)) = grind (arith, nat_tests, is, taken_by connection history) in
     let next = next_one (requests_of (text_fed connection events)) (length (taken_of connection history)) inside in
-    let e : Entry = record { connection = connection; what = next.0; moment = moment; refused = false } in
+    let e : ServedRequest = record { connection = connection; what = next.0; moment = moment; refused = false } in
     record {
       longer = history ++ e ∷ [];
       grants = grants_turn opening events history connection moment next.0 h next.1;
-      turns = ◌∙◌ {b = turns_of history ++ (connection, moment) ∷ []} (map-append (λ (x : Entry). (x.connection, x.moment)) history (e ∷ []))
+      turns = ◌∙◌ {b = turns_of history ++ (connection, moment) ∷ []} (map-append (λ (x : ServedRequest). (x.connection, x.moment)) history (e ∷ []))
           (sym (served_one events (turns_of history) connection moment is));
     }
 
-event_goes_on : (opening : CacheState) (events : List ServerEvent) (event : ServerEvent) (history : List Entry) → Grants opening events history → GoesOn opening events event history
+event_goes_on : (opening : CacheState) (events : List ServerEvent) (event : ServerEvent) (history : List ServedRequest) → Grants opening events history → GoesOn opening events event history
 event_goes_on opening events (Bytes connection bytes) history h = record { longer = history; grants = grants_bytes opening events history connection bytes h; turns = refl }
 event_goes_on opening events (Turn connection moment) history h = turn_goes_on opening events history connection moment (finds_one connection events (turns_of history)) refl h
 
 -- a history grows by all events that are left
-record Ends (opening : CacheState) (before events : List ServerEvent) (history : List Entry) : Type 0 where
-  longer : List Entry
+record Ends (opening : CacheState) (before events : List ServerEvent) (history : List ServedRequest) : Type 0 where
+  longer : List ServedRequest
   grants : Grants opening (before ++ events) longer
   turns : turns_of longer ≡ turns_served before (turns_of history) events
 
-all_go_on : (opening : CacheState) (before events : List ServerEvent) (history : List Entry) → Grants opening before history
+all_go_on : (opening : CacheState) (before events : List ServerEvent) (history : List ServedRequest) → Grants opening before history
     → Ends opening before events history
 all_go_on opening before [] history h = record {
   longer = history;
@@ -219,8 +222,8 @@ turns_below connections before served (Turn connection moment ∷ events) below 
 
 -- if a refused entry has a line as its answer, and no answer has that line as a part, memory was refused
 -- to no entry
-all_granted : (line : List ℕ) → ((s : CacheState) (e : Entry) → IsLegalAt s e → e.refused ≡ true → answer_after s e ≡ line)
-    → (connections : ℕ) (s : CacheState) (es : List Entry) → IsLegalHistory s es → Below connections (turns_of es)
+all_granted : (line : List ℕ) → ((s : CacheState) (e : ServedRequest) → IsLegalAt s e → e.refused ≡ true → answer_after s e ≡ line)
+    → (connections : ℕ) (s : CacheState) (es : List ServedRequest) → IsLegalHistory s es → Below connections (turns_of es)
     → ((number : ℕ) → number < connections → HasPart (answers_to number s es) line → ⊥) → All (λ refused. refused ≡ false) (refusals_of es)
 unfolding Below
 all_granted line told connections s [] legal below never = λ k d inside. absurd (omega arith)
@@ -261,7 +264,7 @@ no_refusal script all outputs x silent =
     silent number [] (omega (arith, size, lt)) (subst (λ (bytes : List ℕ). HasPart bytes (fault_line OutOfMemory)) (sym here) part))
 
 -- histories of the same turns, in which memory was refused to no store
-none_refused : (a b : List Entry) → turns_of a ≡ turns_of b → All (λ refused. refused ≡ false) (refusals_of a) → All (λ refused. refused ≡ false) (refusals_of b) → refusals_of a ≡ refusals_of b
+none_refused : (a b : List ServedRequest) → turns_of a ≡ turns_of b → All (λ refused. refused ≡ false) (refusals_of a) → All (λ refused. refused ≡ false) (refusals_of b) → refusals_of a ≡ refusals_of b
 none_refused [] [] turns first second = refl
 none_refused [] (y ∷ ys) turns first second = absurd cc
 none_refused (x ∷ xs) [] turns first second = absurd cc

@@ -9,7 +9,7 @@ use Rattle.mc_request.specs.declared.parts.Taken.{Taken}
 use Rattle.mc_request.specs.Requests.{requests_of}
 use Rattle.mc_request_reader.specs.Reader.{rest_of}
 use Rattle.mc_cache.specs.CacheState.{CacheState}
-use Rattle.mc_server.specs.Served.{Entry}
+use Rattle.mc_server.specs.Served.{ServedRequest}
 use Rattle.mc_server.specs.Histories.{answers_to, taken_of, turns_of}
 use Rattle.mc_server.specs.ServerState.{ConnectionState, ServerState, connection_at, connection_in, fresh_connection, output_of, updated}
 use Rattle.mc_server.specs.Turns.{IsTurn, Steps}
@@ -31,7 +31,7 @@ texts_fed events number = text_fed number events
 -- The state in which the first events leave a server: its connections are open, its state is that of a history, and
 -- the remaining turns continue the turns of that history.
 pub record Played (opening : CacheState) (connections : ℕ) (events : List ServerEvent) (i : ℕ) (server : ServerState) : Type 0 where
-  pub history : List Entry
+  pub history : List ServedRequest
   pub are_open : (number : ℕ) → number < connections → IsSome (connection_at server number)
   pub holds : ServerHolds opening (texts_fed (take i events)) (λ _. []) history server
   pub turns : turns_served (take i events) (turns_of history) (drop i events) ≡ turns_served [] [] events
@@ -75,7 +75,7 @@ pub text_turn : (number connection moment : ℕ) (events : List ServerEvent) →
 text_turn number connection moment events = text_more number events (Turn connection moment) ∙ append-nil (text_fed number events)
 
 -- how many were taken of a connection, by the turns
-pub taken_by : (number : ℕ) (history : List Entry) → length (taken_of number history) ≡ turns_by number (turns_of history)
+pub taken_by : (number : ℕ) (history : List ServedRequest) → length (taken_of number history) ≡ turns_by number (turns_of history)
 taken_by number [] = refl
 taken_by number (e ∷ es) =
     let again = taken_by number es in
@@ -85,7 +85,7 @@ taken_by number (e ∷ es) =
     ]) ∙ sym (sum_by-cons (λ (turn : ℕ × ℕ). if turn.0 == number then 1 else 0) (e.connection, e.moment) (turns_of es))
 
 -- whether its text has one more, by the text that is left
-has_one : (opening : CacheState) (number : ℕ) (text : List ℕ) (history : List Entry) (c : ConnectionState) (what : Taken) (others : List Taken)
+has_one : (opening : CacheState) (number : ℕ) (text : List ℕ) (history : List ServedRequest) (c : ConnectionState) (what : Taken) (others : List Taken)
     → Holds opening number text history [] c → rest_of c.reader [] ≡ what ∷ others → nat_lt (turns_by number (turns_of history)) (length (requests_of text)) ≡ true
 has_one opening number text history c what others h e =
     let all : taken_of number history ++ (what ∷ others) ≡ requests_of text = rw (← e) (h.rest [] ∙ rw append-nil refl) in
@@ -93,7 +93,7 @@ has_one opening number text history c what others h e =
     let below : turns_by number (turns_of history) < length (requests_of text) = omega (arith, len, length-append (taken_of number history) (what ∷ others), taken_by number history) in
     grind (arith, nat_tests, below)
 
-has_none : (opening : CacheState) (number : ℕ) (text : List ℕ) (history : List Entry) (c : ConnectionState)
+has_none : (opening : CacheState) (number : ℕ) (text : List ℕ) (history : List ServedRequest) (c : ConnectionState)
     → Holds opening number text history [] c → rest_of c.reader [] ≡ [] → nat_lt (turns_by number (turns_of history)) (length (requests_of text)) ≡ false
 has_none opening number text history c h e =
     let all : taken_of number history ++ [] ≡ requests_of text = rw (← e) (h.rest [] ∙ rw append-nil refl) in
@@ -110,7 +110,7 @@ pub served_none : (before : List ServerEvent) (served : List (ℕ × ℕ)) (numb
 served_none before served number moment h = rw h refl
 
 -- an event that was played, from what it leaves of the server
-goes_on : (opening : CacheState) (connections : ℕ) (events : List ServerEvent) (i number : ℕ) (e : ServerEvent) (old new : ServerState) (before after : ConnectionState) (history : List Entry)
+goes_on : (opening : CacheState) (connections : ℕ) (events : List ServerEvent) (i number : ℕ) (e : ServerEvent) (old new : ServerState) (before after : ConnectionState) (history : List ServedRequest)
     → i < length events → get_or events i e ≡ e → (h : Played opening connections events i old)
     → connection_at old number ≡ Some before → new.connections ≡ updated number after old.connections
     → ServerHolds opening (texts_fed (take i events ++ e ∷ [])) (λ _. []) history new
@@ -147,11 +147,11 @@ takes : (opening : CacheState) (connections : ℕ) (events : List ServerEvent) (
     → i < length events → get_or events i (Turn number moment) ≡ Turn number moment → Played opening connections events i old → Steps number old new (IsTurn number moment Took)
     → Played opening connections events (i + 1) new
 takes opening connections events i number moment old new inside is h steps =
-    let e : Entry = entry_taken steps in
+    let e : ServedRequest = entry_taken steps in
     let so_far = texts_fed (take i events) in
     let was = stood opening so_far (λ _. []) h.history old number steps.before h.holds steps.was in
     let finds = has_one opening number (so_far number) h.history steps.before e.what (rest_of steps.after.reader []) was (steps.step.1.first.rest []) in
-    let turns : turns_of (h.history ++ e ∷ []) ≡ turns_of h.history ++ (number, moment) ∷ [] = map-append (λ (x : Entry). (x.connection, x.moment)) h.history (e ∷ []) in
+    let turns : turns_of (h.history ++ e ∷ []) ≡ turns_of h.history ++ (number, moment) ∷ [] = map-append (λ (x : ServedRequest). (x.connection, x.moment)) h.history (e ∷ []) in
     goes_on opening connections events i number (Turn number moment) old new steps.before steps.after (h.history ++ e ∷ []) inside is h steps.was steps.is
     (ServerHolds-same opening so_far (texts_fed (take i events ++ Turn number moment ∷ [])) (λ _. []) (λ _. []) (h.history ++ e ∷ []) new (λ m. text_turn m number moment (take i events)) (λ _. refl)
     (ServerHolds-took opening so_far (λ _. []) h.history number moment old new h.holds steps))
@@ -190,7 +190,7 @@ same_map f g from (suc count) same =
     ∙ ap (λ (xs : List (List ℕ)). g from ∷ xs) (same_map f g (from + 1) count (λ n low high. same n (omega arith) (omega arith)))
 
 -- the output of an open connection is all answers to it
-output_at : (opening : CacheState) (number : ℕ) (text : List ℕ) (history : List Entry) (c : Option ConnectionState) → IsSome c → ServerHoldsAt opening number text history [] c → output_of c ≡ answers_to number opening history
+output_at : (opening : CacheState) (number : ℕ) (text : List ℕ) (history : List ServedRequest) (c : Option ConnectionState) → IsSome c → ServerHoldsAt opening number text history [] c → output_of c ≡ answers_to number opening history
 output_at opening number text history None never h = absurd cc
 output_at opening number text history (Some c) is_open h = h.answered
 

@@ -5,7 +5,7 @@ use Rattle.mc_request.specs.Faults.{fault_line}
 use Rattle.mc_request.specs.Requests.{requests_of}
 use Rattle.mc_request.specs.declared.faults.Fault.TheVariants.{OutOfMemory}
 use Rattle.mc_cache.specs.CacheState.{CacheState, opening_cache}
-use Rattle.mc_server.specs.Served.{Entry}
+use Rattle.mc_server.specs.Served.{ServedRequest}
 use Rattle.mc_server.specs.Histories.{answers_to, taken_of, turns_of, IsLegalHistory}
 use Rattle.mc_script.specs.Scripts.{ScriptSeen}
 use Rattle.mc_script.specs.declared.events.ServerEvent.{ServerEvent}
@@ -48,14 +48,14 @@ cache_of script = opening_cache script.budget script.items 0
 -- takes the first requests and faults of that connection's text, in order. It has one entry for each turn line that
 -- finds one, in the order of the lines, at that line's moment, and no others. The outputs are its answers.
 pub record Answers (script : ScriptSeen) (outputs : List (List ℕ)) : Type 0 where
-  pub history : List Entry
+  pub history : List ServedRequest
   pub legal : IsLegalHistory (cache_of script) history
   pub taken : (number : ℕ) → taken_of number history ≡ take (length (taken_of number history)) (requests_of (text_fed number script.events))
   pub turns : turns_of history ≡ turns_served [] [] script.events
   pub answered : outputs ≡ map (λ number. answers_to number (cache_of script) history) (range_with_len 0 script.connections)
 
 -- whether memory was refused, for each entry of a history
-abbrev pub refusals_of : List Entry → List Bool
+abbrev pub refusals_of : List ServedRequest → List Bool
 refusals_of entries = map (λ e. e.refused) entries
 
 -- outputs answer a script, and memory was refused to no store

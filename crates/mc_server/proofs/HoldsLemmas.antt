@@ -7,7 +7,7 @@ use Rattle.mc_request.specs.declared.parts.Taken.{Taken}
 use Rattle.mc_request.specs.Requests.{requests_of}
 use Rattle.mc_request_reader.specs.Reader.{rest_of}
 use Rattle.mc_cache.specs.CacheState.{CacheState}
-use Rattle.mc_server.specs.Served.{Entry, cache_after, answer_after}
+use Rattle.mc_server.specs.Served.{ServedRequest, cache_after, answer_after}
 use Rattle.mc_server.specs.Histories.{answers_to, taken_of}
 use Rattle.mc_server.specs.ServerState.{ConnectionState, Connections, ServerState, connection_at, connection_in, fresh_connection, output_of, updated, closed, with_fresh, sent_by}
 use Rattle.mc_server.specs.Turns.{Feeds, IsTurn, Steps}
@@ -31,11 +31,11 @@ grown-nothing number other count bytes =
     ])
 
 -- what a history says of a number
-abbrev pub SameFor : CacheState → ℕ → List Entry → List Entry → Type 0
+abbrev pub SameFor : CacheState → ℕ → List ServedRequest → List ServedRequest → Type 0
 SameFor opening number history longer = (taken_of number longer ≡ taken_of number history) × (answers_to number opening longer ≡ answers_to number opening history)
 
 -- an entry of another number says nothing of this one
-pub same_for_other : (opening : CacheState) (number : ℕ) (history : List Entry) (e : Entry) → e.connection ≢ number → SameFor opening number history (history ++ e ∷ [])
+pub same_for_other : (opening : CacheState) (number : ℕ) (history : List ServedRequest) (e : ServedRequest) → e.connection ≢ number → SameFor opening number history (history ++ e ∷ [])
 same_for_other opening number history e differ =
     let other = other_number e.connection number differ in (
       taken-push number history e ∙ rw other (append-nil (taken_of number history)),
@@ -43,7 +43,8 @@ same_for_other opening number history e differ =
     )
 
 -- the state of a connection depends on nothing else
-holds_same : (opening : CacheState) (number : ℕ) (text text' : List ℕ) (history longer : List Entry) (sent sent' : List ℕ) (connection : Option ConnectionState)
+holds_same : (opening : CacheState) (number : ℕ) (text text' : List ℕ) (history longer : List ServedRequest) (sent sent' : List ℕ)
+    (connection : Option ConnectionState)
     → text' ≡ text → sent' ≡ sent → SameFor opening number history longer
     → ServerHoldsAt opening number text history sent connection → ServerHoldsAt opening number text' longer sent' connection
 holds_same opening number text text' history longer sent sent' None text_is sent_is same h = record {
@@ -58,7 +59,7 @@ holds_same opening number text text' history longer sent sent' (Some connection)
 }
 
 -- an open connection that satisfies `Holds` satisfies `Left` once it is closed
-pub left_from_holds : (opening : CacheState) (number : ℕ) (text : List ℕ) (history : List Entry) (sent : List ℕ) (connection : ConnectionState)
+pub left_from_holds : (opening : CacheState) (number : ℕ) (text : List ℕ) (history : List ServedRequest) (sent : List ℕ) (connection : ConnectionState)
     → Holds opening number text history sent connection → Left opening number text history sent
 left_from_holds opening number text history sent connection h = record {
   untaken = rest_of connection.reader [];
@@ -67,7 +68,7 @@ left_from_holds opening number text history sent connection h = record {
   answered = h.answered;
 }
 
-left_at : (opening : CacheState) (number : ℕ) (text : List ℕ) (history : List Entry) (sent : List ℕ) (connection : Option ConnectionState)
+left_at : (opening : CacheState) (number : ℕ) (text : List ℕ) (history : List ServedRequest) (sent : List ℕ) (connection : Option ConnectionState)
     → ServerHoldsAt opening number text history sent connection → Left opening number text history sent
 left_at opening number text history sent None h = h
 left_at opening number text history sent (Some connection) h = left_from_holds opening number text history sent connection h
@@ -84,13 +85,13 @@ at_each number before after old new was is P own others m =
     (eqb_tells number m)
 
 -- an open connection of a server satisfies `Holds`
-pub stood : (opening : CacheState) (texts sent : ℕ → List ℕ) (history : List Entry) (server : ServerState) (number : ℕ) (connection : ConnectionState)
+pub stood : (opening : CacheState) (texts sent : ℕ → List ℕ) (history : List ServedRequest) (server : ServerState) (number : ℕ) (connection : ConnectionState)
     → ServerHolds opening texts sent history server → connection_at server number ≡ Some connection → Holds opening number (texts number) history (sent number) connection
 stood opening texts sent history server number connection h was =
     subst (λ (c : Option ConnectionState). ServerHoldsAt opening number (texts number) history (sent number) c) was (h.each number)
 
 -- a number of an open connection was given
-pub given : (opening : CacheState) (texts sent : ℕ → List ℕ) (history : List Entry) (server : ServerState) (number : ℕ) (connection : ConnectionState)
+pub given : (opening : CacheState) (texts sent : ℕ → List ℕ) (history : List ServedRequest) (server : ServerState) (number : ℕ) (connection : ConnectionState)
     → ServerHolds opening texts sent history server → connection_at server number ≡ Some connection → number < server.admitted
 given opening texts sent history server number connection h was =
     ⊎_elim (λ above. let clash : Some connection ≡ None = sym was ∙ (h.unused number above.1).not_open in absurd cc)
@@ -98,7 +99,7 @@ given opening texts sent history server number connection h was =
     (leb_tells server.admitted number)
 
 -- the texts and the bytes taken out may be written in another way
-pub ServerHolds-same : (opening : CacheState) (texts texts' sent sent' : ℕ → List ℕ) (history : List Entry) (server : ServerState)
+pub ServerHolds-same : (opening : CacheState) (texts texts' sent sent' : ℕ → List ℕ) (history : List ServedRequest) (server : ServerState)
     → ((number : ℕ) → texts' number ≡ texts number) → ((number : ℕ) → sent' number ≡ sent number)
     → ServerHolds opening texts sent history server → ServerHolds opening texts' sent' history server
 ServerHolds-same opening texts texts' sent sent' history server text_is sent_is h = record {
@@ -113,7 +114,7 @@ ServerHolds-same opening texts texts' sent sent' history server text_is sent_is 
 }
 
 -- a connection takes a step, and what is true of all others stays so
-pub stepped : (opening : CacheState) (texts texts' sent sent' : ℕ → List ℕ) (history longer : List Entry) (number : ℕ) (before after : ConnectionState) (old new : ServerState)
+pub stepped : (opening : CacheState) (texts texts' sent sent' : ℕ → List ℕ) (history longer : List ServedRequest) (number : ℕ) (before after : ConnectionState) (old new : ServerState)
     → connection_at old number ≡ Some before → new.connections ≡ updated number after old.connections → new.admitted ≡ old.admitted
     → IsReplayed opening longer new.cache → Holds opening number (texts' number) longer (sent' number) after
     → ((m : ℕ) → number ≢ m → texts' m ≡ texts m) → ((m : ℕ) → number ≢ m → sent' m ≡ sent m) → ((m : ℕ) → number ≢ m → SameFor opening m history longer)
@@ -143,7 +144,7 @@ ServerHolds-new opening = record {
 }
 
 -- an entry of which nothing was taken has no answer
-none_answered : (opening : CacheState) (number : ℕ) (history : List Entry) → taken_of number history ≡ [] → answers_to number opening history ≡ []
+none_answered : (opening : CacheState) (number : ℕ) (history : List ServedRequest) → taken_of number history ≡ [] → answers_to number opening history ≡ []
 none_answered opening number [] none = refl
 none_answered opening number (e ∷ es) none =
     let again : taken_of number es ≡ [] → answers_to number (cache_after opening e) es ≡ [] = none_answered (cache_after opening e) number es in
@@ -153,7 +154,7 @@ none_answered opening number (e ∷ es) none =
     ]) none
 
 -- `admit`: the next number is open, and nothing else has changed
-pub ServerHolds-admitted : (opening : CacheState) (texts sent : ℕ → List ℕ) (history : List Entry) (server : ServerState)
+pub ServerHolds-admitted : (opening : CacheState) (texts sent : ℕ → List ℕ) (history : List ServedRequest) (server : ServerState)
     → ServerHolds opening texts sent history server → ServerHolds opening texts sent history (with_fresh server)
 ServerHolds-admitted opening texts sent history server h =
     let number = server.admitted in
@@ -180,7 +181,7 @@ ServerHolds-admitted opening texts sent history server h =
     }
 
 -- `feed`: the connection's text grows by the piece
-pub ServerHolds-fed : (opening : CacheState) (texts sent : ℕ → List ℕ) (history : List Entry) (number : ℕ) (piece : List ℕ) (old new : ServerState)
+pub ServerHolds-fed : (opening : CacheState) (texts sent : ℕ → List ℕ) (history : List ServedRequest) (number : ℕ) (piece : List ℕ) (old new : ServerState)
     → ServerHolds opening texts sent history old → Steps number old new (Feeds piece) → ServerHolds opening (grown number piece texts) sent history new
 ServerHolds-fed opening texts sent history number piece old new h steps =
     let own = holds_fed opening number (texts number) piece history (sent number) steps.before steps.after (stood opening texts sent history old number steps.before h steps.was) steps.step.1 in
@@ -190,11 +191,11 @@ ServerHolds-fed opening texts sent history number piece old new h steps =
     (λ m differ. grown-other number m piece texts differ) (λ _ _. refl) (λ _ _. (refl, refl)) h
 
 -- the entry of a turn that took something
-abbrev pub entry_taken : {number moment : ℕ} {old new : ServerState} → Steps number old new (IsTurn number moment Took) → Entry
+abbrev pub entry_taken : {number moment : ℕ} {old new : ServerState} → Steps number old new (IsTurn number moment Took) → ServedRequest
 entry_taken {number = number} {moment = moment} steps = record { connection = number; what = steps.step.0; moment = moment; refused = steps.step.1.served.0 }
 
 -- `turn` that took something: the history has its entry more
-pub ServerHolds-took : (opening : CacheState) (texts sent : ℕ → List ℕ) (history : List Entry) (number moment : ℕ) (old new : ServerState)
+pub ServerHolds-took : (opening : CacheState) (texts sent : ℕ → List ℕ) (history : List ServedRequest) (number moment : ℕ) (old new : ServerState)
     → ServerHolds opening texts sent history old → (steps : Steps number old new (IsTurn number moment Took)) → ServerHolds opening texts sent (history ++ entry_taken steps ∷ []) new
 ServerHolds-took opening texts sent history number moment old new h steps =
     let e = entry_taken steps in
@@ -206,7 +207,7 @@ ServerHolds-took opening texts sent history number moment old new h steps =
     (λ _ _. refl) (λ _ _. refl) (λ m differ. same_for_other opening m history e differ) h
 
 -- `turn` that found nothing
-pub ServerHolds-idle : (opening : CacheState) (texts sent : ℕ → List ℕ) (history : List Entry) (number moment : ℕ) (old new : ServerState)
+pub ServerHolds-idle : (opening : CacheState) (texts sent : ℕ → List ℕ) (history : List ServedRequest) (number moment : ℕ) (old new : ServerState)
     → ServerHolds opening texts sent history old → Steps number old new (IsTurn number moment Idle) → ServerHolds opening texts sent history new
 ServerHolds-idle opening texts sent history number moment old new h steps =
     let was = stood opening texts sent history old number steps.before h steps.was in
@@ -216,7 +217,7 @@ ServerHolds-idle opening texts sent history number moment old new h steps =
     (λ _ _. refl) (λ _ _. refl) (λ _ _. (refl, refl)) h
 
 -- `turn` of a connection of which nothing is read any more
-pub ServerHolds-closing : (opening : CacheState) (texts sent : ℕ → List ℕ) (history : List Entry) (number moment : ℕ) (old new : ServerState)
+pub ServerHolds-closing : (opening : CacheState) (texts sent : ℕ → List ℕ) (history : List ServedRequest) (number moment : ℕ) (old new : ServerState)
     → ServerHolds opening texts sent history old → Steps number old new (IsTurn number moment Closing) → ServerHolds opening texts sent history new
 ServerHolds-closing opening texts sent history number moment old new h steps =
     let was = stood opening texts sent history old number steps.before h steps.was in
@@ -226,7 +227,7 @@ ServerHolds-closing opening texts sent history number moment old new h steps =
     (λ _ _. refl) (λ _ _. refl) (λ _ _. (refl, refl)) h
 
 -- `close`: what was taken and sent until then is the first of the text and of the answers
-pub ServerHolds-closed : (opening : CacheState) (texts sent : ℕ → List ℕ) (history : List Entry) (number : ℕ) (old new : ServerState)
+pub ServerHolds-closed : (opening : CacheState) (texts sent : ℕ → List ℕ) (history : List ServedRequest) (number : ℕ) (old new : ServerState)
     → ServerHolds opening texts sent history old → new ≡ record old { connections = closed number old.connections } → connection_at new number ≡ None
     → ServerHolds opening texts sent history new
 ServerHolds-closed opening texts sent history number old new h is not_open =
@@ -251,7 +252,7 @@ ServerHolds-closed opening texts sent history number old new h is not_open =
           };
     }
 
-sent_from : (opening : CacheState) (texts sent : ℕ → List ℕ) (history : List Entry) (number count : ℕ) (old new : ServerState) (connection : Option ConnectionState)
+sent_from : (opening : CacheState) (texts sent : ℕ → List ℕ) (history : List ServedRequest) (number count : ℕ) (old new : ServerState) (connection : Option ConnectionState)
     → connection_at old number ≡ connection → ServerHolds opening texts sent history old → new ≡ sent_by number count connection old
     → ServerHolds opening texts (grown number (take count (output_of connection)) sent) history new
 sent_from opening texts sent history number count old new None was h is =
@@ -267,13 +268,13 @@ sent_from opening texts sent history number count old new (Some before) was h is
     (λ _ _. refl) (λ m differ. grown-other number m more sent differ) (λ _ _. (refl, refl)) h
 
 -- `taken_out`: the bytes taken out grow by the first of the output
-pub ServerHolds-sent : (opening : CacheState) (texts sent : ℕ → List ℕ) (history : List Entry) (number count : ℕ) (old new : ServerState)
+pub ServerHolds-sent : (opening : CacheState) (texts sent : ℕ → List ℕ) (history : List ServedRequest) (number count : ℕ) (old new : ServerState)
     → ServerHolds opening texts sent history old → new ≡ sent_by number count (connection_at old number) old
     → ServerHolds opening texts (grown number (take count (output_of (connection_at old number))) sent) history new
 ServerHolds-sent opening texts sent history number count old new h is = sent_from opening texts sent history number count old new (connection_at old number) refl h is
 
 -- what was taken of a number is the first of its text, in order
-pub taken_is_first : (opening : CacheState) (texts sent : ℕ → List ℕ) (history : List Entry) (server : ServerState) (number : ℕ)
+pub taken_is_first : (opening : CacheState) (texts sent : ℕ → List ℕ) (history : List ServedRequest) (server : ServerState) (number : ℕ)
     → ServerHolds opening texts sent history server → taken_of number history ≡ take (length (taken_of number history)) (requests_of (texts number))
 taken_is_first opening texts sent history server number h =
     let l = left_at opening number (texts number) history (sent number) (connection_at server number) (h.each number) in

@@ -39,7 +39,7 @@ use Rattle.mc_cache.specs.Replay.{Command, replies, IsLegal}
 use Rattle.mc_cache.specs.Settling.{settled}
 use Rattle.mc_cache.specs.Showing.{item_shown, told}
 use Rattle.mc_cache.specs.Step.{step_of, get_step, update_step, touch_step, delete_step, delete_by, count_step, count_by, count_number, count_none, meta_step, meta_get_step, meta_get_none, made_by, held_under, unmet, unstored, compared, store_by, stored, stored_by, is_too_large, Content, Outcome}
-use Rattle.mc_server.specs.Served.{Entry, answer_after, tells_refusal, IsLegalAt}
+use Rattle.mc_server.specs.Served.{ServedRequest, answer_after, tells_refusal, IsLegalAt}
 
 -- the commands of some atoms at a moment, refused memory or not
 abbrev commands : ℕ → Bool → List (Atom (List ℕ)) → List Command
@@ -193,7 +193,7 @@ granted_are_legal s moment [] = tt
 granted_are_legal s moment (atom ∷ atoms) = (λ refused. absurd cc, granted_are_legal (step_of s atom moment false).0 moment atoms)
 
 -- so an entry that was not refused memory may be anywhere
-pub granted_is_legal : (s : CacheState) (e : Entry) → e.refused ≡ false → IsLegalAt s e
+pub granted_is_legal : (s : CacheState) (e : ServedRequest) → e.refused ≡ false → IsLegalAt s e
 granted_is_legal s e granted =
     let atoms = atoms_taken e.what in
     subst (λ (refused : Bool). IsLegal s (commands e.moment refused atoms) × (refused ≡ tells_refusal (replies s (commands e.moment refused atoms)))) (sym granted)
@@ -255,5 +255,5 @@ told_by s (Whole (AnUpdate update noreply)) moment refused legal is =
     ap (λ (r : Reply (List ℕ)). answer (Whole (AnUpdate update noreply)) (r ∷ [])) (only_refusal reply tells) ∙ fault_is_shown update noreply OutOfMemory
 
 -- an entry that was refused memory is answered the line, and nothing else
-pub refusal_is_told : (s : CacheState) (e : Entry) → IsLegalAt s e → e.refused ≡ true → answer_after s e ≡ fault_line OutOfMemory
+pub refusal_is_told : (s : CacheState) (e : ServedRequest) → IsLegalAt s e → e.refused ≡ true → answer_after s e ≡ fault_line OutOfMemory
 refusal_is_told s e legal is = told_by s e.what e.moment e.refused legal is

@@ -20,7 +20,7 @@ use Rattle.mc_link.specs.LinkState.{LinkState, Waiting}
 use Rattle.mc_cache.specs.CacheState.{CacheState}
 use Rattle.mc_cache.specs.Step.{step_of}
 use Rattle.mc_cache_laws.specs.GoodCaches.{IsGoodCache}
-use Rattle.mc_server.specs.Served.{Entry as Taking}
+use Rattle.mc_server.specs.Served.{ServedRequest}
 use Rattle.mc_proxy.specs.SessionState.{SessionState, link_at}
 use Rattle.mc_proxy.specs.ProxyState.{ProxyState, output_of, session_at, unanswered_of}
 use Rattle.mc_proxy.specs.Turns.{waiting_of}
@@ -212,7 +212,7 @@ all_replies (m ∷ ms) = all_replies ms
 -- and `quit`, and sent the bytes that the link received.
 pub completes : (ring : RingState) (opening : CacheState) (clients : ℕ) (texts outs went came began ended : ℕ → List ℕ) (proxy : ProxyState) → IsGoodCache opening
     → Talks ring clients texts outs went came proxy → IsQuiet clients (length ring.servers) proxy
-    → ((server : ℕ) → server < length ring.servers → (history : List Taking) × IsWorked opening (began server) (ended server) (went server ++ codes "quit\r\n") (came server) history)
+    → ((server : ℕ) → server < length ring.servers → (history : List ServedRequest) × IsWorked opening (began server) (ended server) (went server ++ codes "quit\r\n") (came server) history)
     → Account ring opening texts outs began ended
 completes ring opening clients texts outs went came began ended proxy good_cache h quiet worked =
     let over : (client : ℕ) → IsOver h.order (texts client) (outs client) client = λ client. ⊎_elim

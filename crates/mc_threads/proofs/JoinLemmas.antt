@@ -3,7 +3,7 @@ use Rattle.std.proofs.Common.{◌≡◌, ◌∙◌, inl, inr, ℕ, zero, suc, �
 use Rattle.std.proofs.lemmas.Bool.{cases_eq}
 use Rattle.rtrb.specs.Ring.{sent, received}
 use Rattle.mc_cache.specs.CacheState.{opening_cache}
-use Rattle.mc_server.specs.Served.{Entry}
+use Rattle.mc_server.specs.Served.{ServedRequest}
 use Rattle.mc_threads.specs.Accounts.{at}
 use Rattle.mc_threads.specs.Starts.{Each1, Each2, HasSettled, IsFresh}
 use Rattle.mc_threads.specs.Talks.{came_from, went_to}
@@ -53,8 +53,8 @@ settled_push {C} times results k cs cs2 ends done c e size grown own joined is i
 pub worked_at : {C G H : Type 0} (f : H → Given C G) (times : C → List ℕ) (bounds : Bounds) (n server : ℕ) (hs : List H) (cs : List C) (h : H) (ended went came ended2 went2 came2 : List ℕ)
     → n ≤ length hs → n ≤ length cs → (f h).bounds.value ≡ bounds → h ≡ get_or hs server h → Each2 (λ x c. (f x).clock.value ≡ c) n hs cs → server < n
     → ended ≡ ended2 → went ≡ went2 → came ≡ came2
-    → ((history : List Entry) × IsWorked (opening_cache (f h).bounds.value.budget (f h).bounds.value.items 0) (times (f h).clock.value) ended2 went2 came2 history)
-    → (history : List Entry) × IsWorked (opening_cache bounds.budget bounds.items 0) (at (map times cs) server) ended went came history
+    → ((history : List ServedRequest) × IsWorked (opening_cache (f h).bounds.value.budget (f h).bounds.value.items 0) (times (f h).clock.value) ended2 went2 came2 history)
+    → (history : List ServedRequest) × IsWorked (opening_cache bounds.budget bounds.items 0) (at (map times cs) server) ended went came history
 worked_at {C} {G} {H} f times bounds n server hs cs h ended went came ended2 went2 came2 handles clocks same_bounds is same_clocks low e w m worked =
     let c : C = some_at cs server (omega (arith, low, clocks)) in
     let clock : (f h).clock.value ≡ get_or cs server c = ap (λ (x : H). (f x).clock.value) is ∙ same_clocks server h c low in

@@ -15,7 +15,7 @@ use Rattle.mc_cache.specs.CacheState.{CacheState}
 use Rattle.mc_cache.specs.Step.{step_of}
 use Rattle.mc_cache_laws.specs.GoodCaches.{IsGoodCache}
 use Rattle.mc_cache_laws.proofs.GoodStepLemmas.{answers_as_it_can}
-use Rattle.mc_server.specs.Served.{Entry as Taking}
+use Rattle.mc_server.specs.Served.{ServedRequest}
 use Rattle.mc_server.specs.ServerState.{closed, ConnectionState, ServerState, connection_at}
 use Rattle.mc_server.specs.Holds.{ServerHolds, grown}
 use Rattle.mc_server.specs.Turns.{Feeds, IsTurn, Steps}
@@ -192,7 +192,7 @@ site_late_turned place order lane link opening site server moment i way tag tags
       begun = h.begun;
       texts = h.texts;
       sent = h.sent;
-      server = subst (λ (es : List Taking). ServerHolds opening h.texts h.sent es server) taking
+      server = subst (λ (es : List ServedRequest). ServerHolds opening h.texts h.sent es server) taking
           (ServerHolds-took opening h.texts h.sent (map taking_of h.made) way.connection moment site.server server h.server steps);
       good_cache = still_good site.server.cache server.cache m steps.step.0 next.what_is steps.step.1.served.1.cache good below h.good_cache;
       answers = made_push opening h.made m h.answers made;

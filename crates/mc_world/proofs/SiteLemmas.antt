@@ -14,7 +14,7 @@ use Rattle.mc_cache.specs.CacheState.{CacheState}
 use Rattle.mc_cache.specs.Step.{step_of}
 use Rattle.mc_cache_laws.specs.GoodCaches.{IsGoodCache}
 use Rattle.mc_cache_laws.proofs.GoodStepLemmas.{answers_as_it_can, stays_good}
-use Rattle.mc_server.specs.Served.{Entry as Taking, answer_after, cache_after}
+use Rattle.mc_server.specs.Served.{ServedRequest, answer_after, cache_after}
 use Rattle.mc_server.specs.ServerState.{ConnectionState, ServerState, connection_at}
 use Rattle.mc_server.specs.Holds.{ServerHolds, Holds, grown}
 use Rattle.mc_server.specs.Turns.{Feeds, IsTurn, Steps}
@@ -182,7 +182,7 @@ made_of site all opening command moment refused = record {
   reply = (step_of (cache_of opening all) command.0 moment refused).1;
 }
 
-abbrev pub taking_by : ℕ → Taken → ℕ → Bool → Taking
+abbrev pub taking_by : ℕ → Taken → ℕ → Bool → ServedRequest
 taking_by connection what moment refused = record { connection = connection; what = what; moment = moment; refused = refused }
 
 -- a turn of a connection makes the command that it takes
@@ -292,7 +292,7 @@ site_turned place order lane link opening site server moment tag reply up steps 
       begun = h.begun;
       texts = h.texts;
       sent = h.sent;
-      server = subst (λ (es : List Taking). ServerHolds opening h.texts h.sent es server) taking
+      server = subst (λ (es : List ServedRequest). ServerHolds opening h.texts h.sent es server) taking
           (ServerHolds-took opening h.texts h.sent (map taking_of h.made) site.connection moment site.server server h.server steps);
       good_cache = still_good site.server.cache server.cache m steps.step.0 takes.next.what_is steps.step.1.served.1.cache takes.good below h.good_cache;
       answers = made_push opening h.made m h.answers made;
