@@ -15,7 +15,7 @@ use Rattle.mc_reply.specs.Seen.{bytes_seen}
 use Rattle.mc_reply.specs.Spelling.{head_line, key_part, blocks_of, end_line}
 use Rattle.mc_reply.proofs.SpellingLemmas.{key_part-hit}
 use Rattle.mc_cache.specs.CacheState.{CacheState}
-use Rattle.mc_cache.specs.Replay.{Command, replay, replies, IsLegal}
+use Rattle.mc_cache.specs.Replay.{Command, replay, replies, AreAllowed}
 use Rattle.mc_cache.specs.Step.{step_of, Outcome}
 use Rattle.mc_server.specs.Served.{IsServed, Serves}
 use Rattle.mc_server.proofs.RefusalLemmas.{gets_tell_none}
@@ -41,7 +41,8 @@ abbrev pub gets : Option ℤ → Bool → ℕ → List (List ℕ) → List Comma
 gets exptime with_cas moment keys = map (λ atom. record { atom = atom; moment = moment; refused = false }) (gets_of exptime with_cas keys)
 
 -- such commands are legal
-pub gets_are_legal : (s : CacheState) (exptime : Option ℤ) (with_cas : Bool) (moment : ℕ) (keys : List (List ℕ)) → IsLegal s (gets exptime with_cas moment keys)
+pub gets_are_legal : (s : CacheState) (exptime : Option ℤ) (with_cas : Bool) (moment : ℕ) (keys : List (List ℕ))
+    → AreAllowed s (gets exptime with_cas moment keys)
 gets_are_legal s exptime with_cas moment [] = tt
 gets_are_legal s exptime with_cas moment (key ∷ keys) =
     (λ refused. absurd cc, gets_are_legal (step_of s (atoms.Get key exptime with_cas) moment false).0 exptime with_cas moment keys)

@@ -35,7 +35,7 @@ use Rattle.std.specs.Option.{option_or}
 use Rattle.mc_store.specs.Items.{body_at}
 use Rattle.mc_cache.specs.CacheState.{CacheState}
 use Rattle.mc_cache.specs.Refusals.{is_refusal}
-use Rattle.mc_cache.specs.Replay.{Command, replies, IsLegal}
+use Rattle.mc_cache.specs.Replay.{Command, replies, AreAllowed}
 use Rattle.mc_cache.specs.Settling.{settled}
 use Rattle.mc_cache.specs.Showing.{item_shown, told}
 use Rattle.mc_cache.specs.Step.{step_of, get_step, update_step, touch_step, delete_step, delete_by, count_step, count_by, count_number, count_none, meta_step, meta_get_step, meta_get_none, made_by, held_under, unmet, unstored, compared, store_by, stored, stored_by, is_too_large, Content, Outcome}
@@ -188,7 +188,7 @@ granted_tell_none : (s : CacheState) (moment : ℕ) (atoms : List (Atom (List �
 granted_tell_none s moment [] = refl
 granted_tell_none s moment (atom ∷ atoms) = rw (step_tells_none s atom moment) (granted_tell_none (step_of s atom moment false).0 moment atoms)
 
-granted_are_legal : (s : CacheState) (moment : ℕ) (atoms : List (Atom (List ℕ))) → IsLegal s (commands moment false atoms)
+granted_are_legal : (s : CacheState) (moment : ℕ) (atoms : List (Atom (List ℕ))) → AreAllowed s (commands moment false atoms)
 granted_are_legal s moment [] = tt
 granted_are_legal s moment (atom ∷ atoms) = (λ refused. absurd cc, granted_are_legal (step_of s atom moment false).0 moment atoms)
 
@@ -196,7 +196,7 @@ granted_are_legal s moment (atom ∷ atoms) = (λ refused. absurd cc, granted_ar
 pub granted_is_legal : (s : CacheState) (e : ServedRequest) → e.refused ≡ false → IsLegalAt s e
 granted_is_legal s e granted =
     let atoms = atoms_taken e.what in
-    subst (λ (refused : Bool). IsLegal s (commands e.moment refused atoms) × (refused ≡ tells_refusal (replies s (commands e.moment refused atoms)))) (sym granted)
+    subst (λ (refused : Bool). AreAllowed s (commands e.moment refused atoms) × (refused ≡ tells_refusal (replies s (commands e.moment refused atoms)))) (sym granted)
     (granted_are_legal s e.moment atoms, sym (granted_tell_none s e.moment atoms))
 
 -- the only reply that is the line

@@ -11,7 +11,7 @@ use Rattle.mc_request.specs.declared.parts.Taken.TheVariants.{Whole}
 use Rattle.mc_reply.specs.declared.replies.Reply.{Reply as AReply}
 use Rattle.mc_codec.proofs.SpelledTextLemmas.{quit_after}
 use Rattle.mc_cache.specs.CacheState.{CacheState}
-use Rattle.mc_cache.specs.Replay.{Command, IsLegal as AreAllowed}
+use Rattle.mc_cache.specs.Replay.{AreAllowed, Command}
 use Rattle.mc_cache.specs.Step.{step_of}
 use Rattle.mc_cache_laws.specs.GoodCaches.{IsGoodCache}
 use Rattle.mc_cache_laws.proofs.GoodStepLemmas.{answers_as_it_can, stays_good}
