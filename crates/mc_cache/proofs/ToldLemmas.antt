@@ -21,7 +21,7 @@ use Rattle.mc_reply.specs.declared.replies.Reply.TheVariants.{Stored, NotStored,
 use Rattle.mc_store.specs.Items.{Items, body_at, front_body}
 use Rattle.mc_cache.specs.CacheState.{CacheState, value_at, front_value}
 use Rattle.mc_cache.specs.Showing.{told, item_shown}
-use Rattle.mc_cache.specs.Step.{Outcome, Content, admission, numbered, with_item, stored_by, stored, compared, unmet, unstored, content_by, store_by, touch_step, delete_by, delete_step, count_number, count_by, count_none, count_step, update_step, held_under, outcome_told}
+use Rattle.mc_cache.specs.Step.{StepResult, Content, admission, numbered, with_item, stored_by, stored, compared, unmet, unstored, content_by, store_by, touch_step, delete_by, delete_step, count_number, count_by, count_none, count_step, update_step, held_under, outcome_told}
 use Rattle.mc_cache.specs.Refusals.{value_under}
 use Rattle.mc_cache.specs.Admissions.{IsTold}
 use Rattle.mc_cache.proofs.StoredLemmas.{own_key}
@@ -33,7 +33,7 @@ stores (Number number) = true
 stores other = false
 
 -- if an outcome says so, the key's item is first
-abbrev IsFirst : List ℕ → Outcome → Type 0
+abbrev IsFirst : List ℕ → StepResult → Type 0
 IsFirst key outcome = stores outcome.1 ≡ true → body_at key outcome.0.items ≡ front_body outcome.0.items
 
 -- what is put in front is first, if it is kept
@@ -142,7 +142,7 @@ update_step-first s (FlushAll delay) moment refused = λ is. absurd cc
 first_of : (s : CacheState) (update : Update (List ℕ) (List ℕ)) (moment : ℕ) (refused : Bool) (after : CacheState) (reply : Reply (List ℕ))
     → update_step s update moment refused ≡ (after, reply) → stores reply ≡ true → held_under (key_in update) after ≡ front_body after.items
 first_of s update moment refused after reply is says =
-    subst (λ (o : Outcome). stores o.1 ≡ true → held_under (key_in update) o.0 ≡ front_body o.0.items) is (update_step-first s update moment refused) says
+    subst (λ (o : StepResult). stores o.1 ≡ true → held_under (key_in update) o.0 ≡ front_body o.0.items) is (update_step-first s update moment refused) says
 
 -- the value under a key is that of its item
 value_of_held : (key : Option (List ℕ)) (s : CacheState) → held_under key s ≡ front_body s.items → value_under key s ≡ front_value s.items
@@ -150,7 +150,7 @@ value_of_held (Some key) s is = ap (λ (held : Option Body). unwrap_or (option_m
 value_of_held None s is = ap (λ (held : Option Body). unwrap_or (option_map (λ (b : Body). b.value) held) []) is
 
 -- the meta reply by an outcome that is known
-told_is : (key : Option (List ℕ)) (show : Show) (moment : ℕ) (o : Outcome) (after : CacheState) (reply answer : Reply (List ℕ)) → o ≡ (after, reply)
+told_is : (key : Option (List ℕ)) (show : Show) (moment : ℕ) (o : StepResult) (after : CacheState) (reply answer : Reply (List ℕ)) → o ≡ (after, reply)
     → told show moment Plain (held_under key after) reply ≡ answer → outcome_told show moment Plain key o ≡ (after, answer)
 told_is key show moment o after reply answer is says = ap (outcome_told show moment Plain key) is ∙ ap (λ (r : Reply (List ℕ)). (after, r)) says
 
@@ -178,8 +178,8 @@ told_outcome s update moment refused after show (Meta shown (Some value)) result
 told_outcome s update moment refused after show (Fault fault) result is says = rw says (told_is (key_in update) show moment _ after _ _ (is (front_value after.items)) refl)
 
 -- either value fills a reply that shows none
-same_by : (o : Outcome) (after : CacheState) (reply : Reply (Unit {0})) → ((value : List ℕ) → o ≡ (after, filled reply value)) → (a b : List ℕ) → filled reply a ≡ filled reply b
-same_by o after reply is a b = ap (λ (p : Outcome). p.1) (sym (is a) ∙ is b)
+same_by : (o : StepResult) (after : CacheState) (reply : Reply (Unit {0})) → ((value : List ℕ) → o ≡ (after, filled reply value)) → (a b : List ℕ) → filled reply a ≡ filled reply b
+same_by o after reply is a b = ap (λ (p : StepResult). p.1) (sym (is a) ∙ is b)
 
 -- the value under the key fills the meta reply as that of the first item does
 pub told_same : (s : CacheState) (update : Update (List ℕ) (List ℕ)) (moment : ℕ) (refused : Bool) (after : CacheState) (show : Show) (reply result : Reply (Unit {0}))
@@ -213,5 +213,5 @@ pub made_value : (s after : CacheState) (key : List ℕ) (content : Content) (re
     → value_at key after.items ≡ front_value after.items
 made_value s after key content refused is =
     let first : IsFirst key (after, Stored) =
-    subst (λ (o : Outcome). IsFirst key o) is (stored_by-first s key content refused Stored (admission s key (length content.value))) in
+    subst (λ (o : StepResult). IsFirst key o) is (stored_by-first s key content refused Stored (admission s key (length content.value))) in
     ap (λ (held : Option Body). unwrap_or (option_map (λ (b : Body). b.value) held) []) (first refl)

@@ -38,7 +38,7 @@ use Rattle.mc_cache.specs.CacheState.{CacheState, opening_cache}
 use Rattle.mc_cache.specs.Replay.{Command, command_step}
 use Rattle.mc_cache.specs.Settling.{settled, emptied}
 use Rattle.mc_cache.specs.Showing.{shown_of, marks_of, told}
-use Rattle.mc_cache.specs.Step.{Outcome, Content, numbered, unstored, unmet, compared, content_by, fronted, stored, store_step, touched, expiry_by, get_step, touch_step, delete_step, counted, count_step, count_none, flush_step, update_step, made_by, looked_at, meta_get_none, meta_get_step, meta_step, settled_step, step_of, atom_key}
+use Rattle.mc_cache.specs.Step.{StepResult, Content, numbered, unstored, unmet, compared, content_by, fronted, stored, store_step, touched, expiry_by, get_step, touch_step, delete_step, counted, count_step, count_none, flush_step, update_step, made_by, looked_at, meta_get_none, meta_get_step, meta_step, settled_step, step_of, atom_key}
 use Rattle.mc_cache_laws.specs.GoodCaches.{IsGoodBody, IsGoodCache, IsGoodCommand, StaysGood, AnswersAsItCan, AnswersEachAsItCan}
 use Rattle.std.specs.List.{All}
 use Rattle.std.proofs.lemmas.List.Elements.{All-nil, All-head, All-tail}
@@ -85,11 +85,11 @@ content_first : (s : CacheState) (key : List ℕ) (content : Content) → IsGood
 content_first s key content good admitted = first_item s key (numbered content (s.counter + 1)) good.some_items admitted.small
 
 -- an outcome of an update that a classic command may have, and one that a meta command may have
-record IsGoodEnd (update : Update (List ℕ) (List ℕ)) (o : Outcome) : Type 0 where
+record IsGoodEnd (update : Update (List ℕ) (List ℕ)) (o : StepResult) : Type 0 where
   cache : IsGoodCache o.0
   reply : can_have_update update o.1 ≡ true
 
-record IsGoodMetaEnd (update : Update (List ℕ) (List ℕ)) (show : Show) (moment : ℕ) (key : List ℕ) (o : Outcome) : Type 0 where
+record IsGoodMetaEnd (update : Update (List ℕ) (List ℕ)) (show : Show) (moment : ℕ) (key : List ℕ) (o : StepResult) : Type 0 where
   cache : IsGoodCache o.0
   reply : can_have_meta (metas.Update update show) (told show moment Plain (body_at key o.0.items) o.1) ≡ true
 
@@ -192,7 +192,7 @@ touch_is_good s key (Some body) exptime moment fits early good was = record {
 }
 
 -- retrieval commands
-record IsGoodAnswer (atom : Atom (List ℕ)) (o : Outcome) : Type 0 where
+record IsGoodAnswer (atom : Atom (List ℕ)) (o : StepResult) : Type 0 where
   cache : IsGoodCache o.0
   reply : can_have atom o.1 ≡ true
 
@@ -390,7 +390,7 @@ made_expiry : (exptime : Option ℤ) (create : ℤ) (moment : ℕ) → is_i64 cr
 made_expiry None create moment makes fits early = deadline_is_good create moment makes early
 made_expiry (Some exptime) create moment makes fits early = deadline_is_good exptime moment fits early
 
-record IsGoodMadeEnd (key : List ℕ) (get : MetaGet) (moment : ℕ) (o : Outcome) : Type 0 where
+record IsGoodMadeEnd (key : List ℕ) (get : MetaGet) (moment : ℕ) (o : StepResult) : Type 0 where
   cache : IsGoodCache o.0
   reply : can_have_meta {K = List ℕ} {B = List ℕ} (metas.Get key get) (told get.show moment Won (body_at key o.0.items) o.1) ≡ true
 

@@ -30,7 +30,7 @@ use Rattle.mc_store.proofs.ItemLemmas.{body_at-without, body_at-brought}
 use Rattle.mc_store.proofs.KeptLemmas.{kept-first, kept-begins}
 use Rattle.mc_cache.specs.CacheState.{CacheState, IsHeldWithin}
 use Rattle.mc_cache.specs.Showing.{item_shown, marks_of, told}
-use Rattle.mc_cache.specs.Step.{Outcome, Content, numbered, unmet, content_by, compared, fronted, store_step, touched, expiry_by, get_step, touch_step, delete_step, counted, count_none, count_step, update_step, made_by, looked_at, meta_get_none, meta_get_step, held_under, settled_step, stored, atom_key}
+use Rattle.mc_cache.specs.Step.{StepResult, Content, numbered, unmet, content_by, compared, fronted, store_step, touched, expiry_by, get_step, touch_step, delete_step, counted, count_none, count_step, update_step, made_by, looked_at, meta_get_none, meta_get_step, held_under, settled_step, stored, atom_key}
 use Rattle.mc_cache.proofs.HeldLemmas.{body_at-own, body_at-other, without-own, held-without, held-changed, held-brought, held-put}
 use Rattle.mc_cache.proofs.StoredLemmas.{own_key}
 use Rattle.mc_cache_laws.specs.OneMap.{KeyOutcome, put, store_key, get_key, touch_key, delete_key, count_no_key, count_held, count_key, update_key, told_key, meta_get_no_key, meta_get_key, key_step}
@@ -39,7 +39,7 @@ use Rattle.mc_cache_laws.proofs.OutcomeLemmas.{EndsStored, IsAdmitted, with_cont
 use Rattle.mc_cache_laws.proofs.ShownLemmas.{first_item}
 
 -- an outcome is that of the map on this key
-pub record Matches (s : CacheState) (key : List ℕ) (expected : KeyOutcome) (o : Outcome) : Type 0 where
+pub record Matches (s : CacheState) (key : List ℕ) (expected : KeyOutcome) (o : StepResult) : Type 0 where
   pub reply : o.1 ≡ expected.1
   pub own : map_of o.0.items key ≡ expected.0
   pub others : (other : List ℕ) → bytes_eq key other ≡ false → body_at other o.0.items ≡ body_at other s.items
@@ -47,7 +47,7 @@ pub record Matches (s : CacheState) (key : List ℕ) (expected : KeyOutcome) (o 
   pub pending : o.0.pending ≡ None
 
 -- an outcome that is not refused and evicts nothing is that of the map
-abbrev pub Follows : CacheState → List ℕ → KeyOutcome → Outcome → Type 0
+abbrev pub Follows : CacheState → List ℕ → KeyOutcome → StepResult → Type 0
 Follows s key expected o = is_refused_store o.1 ≡ false → length (without key o.0.items) ≡ length (without key s.items) → Matches s key expected o
 
 -- nothing changes
@@ -231,7 +231,7 @@ told-refusal : (show : Show) (moment : ℕ) (marks : Marks) (held : Option Body)
 told-refusal show moment marks held reply answered = grind arith
 
 -- a meta command follows if its update does
-told-follows : (s : CacheState) (key : List ℕ) (show : Show) (moment : ℕ) (marks : Marks) (expected : KeyOutcome) (o : Outcome) → show.cas ≡ false
+told-follows : (s : CacheState) (key : List ℕ) (show : Show) (moment : ℕ) (marks : Marks) (expected : KeyOutcome) (o : StepResult) → show.cas ≡ false
     → Follows s key expected o → Follows s key (told_key show moment marks expected) (o.0, told show moment marks (body_at key o.0.items) o.1)
 told-follows s key show moment marks expected o hides follows answered many = grind (arith, told-unnumbered, told-refusal)
 

@@ -16,7 +16,7 @@ use Rattle.mc_store.proofs.ItemLemmas.{without-absent, body_at-without}
 use Rattle.mc_cache.specs.CacheState.{CacheState, IsHeldWithin, IsWithinBounds}
 use Rattle.mc_cache.specs.Replay.{command_step, replay, replies}
 use Rattle.mc_cache.specs.Settling.{settled, is_dead_at, without_dead}
-use Rattle.mc_cache.specs.Step.{Outcome, settled_step, step_of, atom_key}
+use Rattle.mc_cache.specs.Step.{StepResult, settled_step, step_of, atom_key}
 use Rattle.mc_cache.proofs.HeldLemmas.{held-without}
 use Rattle.mc_cache_laws.specs.OneMap.{OneMap, KeyOutcome, key_step, found, map_with, map_step}
 use Rattle.mc_cache_laws.specs.MapLaws.{is_of_map, is_refused_store, keeps_others, IsPlainStep, IsUnflushed, unnumbered, map_of, IsMap, IsMapStep, StepsAsMap}
@@ -72,14 +72,14 @@ step-at : (s : CacheState) → IsUnflushed s → (map : OneMap) → IsMap map s 
     → (key : List ℕ) → atom_key atom ≡ Some key → IsMapStep map s atom moment refused
 step-at s good map holds atom moment refused plain key is =
     let u : CacheState = alive s key moment in
-    let o : Outcome = settled_step u atom moment refused in
+    let o : StepResult = settled_step u atom moment refused in
     let steps : step_of s atom moment refused ≡ o =
     ap (λ (k : Option (List ℕ)). settled_step (settled s k moment) atom moment refused) is
     ∙ ap (λ (t : CacheState). settled_step t atom moment refused) (settled-alive s key moment good.pending) in
-    let answered : is_refused_store o.1 ≡ false = subst (λ (x : Outcome). is_refused_store x.1 ≡ false) steps plain.answered in
+    let answered : is_refused_store o.1 ≡ false = subst (λ (x : StepResult). is_refused_store x.1 ≡ false) steps plain.answered in
     let keeps : keeps_others (Some key) s.items o.0.items ≡ true =
     subst (λ (k : Option (List ℕ)). keeps_others k s.items o.0.items ≡ true) is
-    (subst (λ (x : Outcome). keeps_others (atom_key atom) s.items x.0.items ≡ true) steps plain.kept) in
+    (subst (λ (x : StepResult). keeps_others (atom_key atom) s.items x.0.items ≡ true) steps plain.kept) in
     let many : length (without key o.0.items) ≡ length (without key u.items) =
     eqb-true (length (without key o.0.items)) (length (without key s.items)) keeps ∙ sym (alive-many s key moment good) in
     let m : Matches u key (key_step (map_of u.items key) atom moment) o =

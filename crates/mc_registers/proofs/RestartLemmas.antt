@@ -16,7 +16,7 @@ use Rattle.mc_store.specs.Items.{body_at}
 use Rattle.mc_cache.specs.CacheState.{CacheState, IsWithinBounds, opening_cache}
 use Rattle.mc_cache.specs.Replay.{Command, command_step}
 use Rattle.mc_cache.specs.Settling.{settled, emptied, flushed, is_due, is_dead_at}
-use Rattle.mc_cache.specs.Step.{Outcome, flush_step, settled_step, step_of, atom_key}
+use Rattle.mc_cache.specs.Step.{StepResult, flush_step, settled_step, step_of, atom_key}
 use Rattle.mc_registers.specs.Registers.{Done, register_step, turn, last_by, IsRun}
 use Rattle.mc_registers.specs.Guarantees.{number_shown}
 use Rattle.mc_registers.specs.Laws.{done_by, done_on}
@@ -58,13 +58,13 @@ keyed-next s own key last held command is knows =
     let u : CacheState = flushed s moment in
     let t : CacheState = alive u own moment in
     let settles : Knows u key last held = flushed-knows s key last held moment knows in
-    let o : Outcome = settled_step t atom moment command.refused in
+    let o : StepResult = settled_step t atom moment command.refused in
     let steps : command_step s command ≡ o = ap (λ (k : Option (List ℕ)). settled_step (settled s k moment) atom moment command.refused) is in
     let turns : Turns t own (λ given. register_step given (body_at own t.items) atom moment) o =
     settled_step-turns t atom moment command.refused own is (alive-good u own moment settles.within) in
     let next : o.0.counter ≤ u.counter + 1 = turns.next in
     let same : u.counter ≡ s.counter = flushed-counter s moment in
-    subst (λ (x : Outcome). x.0.counter ≤ s.counter + 1) (sym steps) (omega (arith, next, same))
+    subst (λ (x : StepResult). x.0.counter ≤ s.counter + 1) (sym steps) (omega (arith, next, same))
 
 command-next : (s : CacheState) (key : List ℕ) (last : ℕ) (held : Option Body) (command : Command) → Knows s key last held → (command_step s command).0.counter ≤ s.counter + 1
 command-next s key last held command knows =

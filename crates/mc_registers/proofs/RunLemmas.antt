@@ -16,7 +16,7 @@ use Rattle.mc_cache.specs.CacheState.{CacheState, IsWithinBounds, IsHeldWithin, 
 use Rattle.mc_cache.specs.Laws.{IsSameOrGone}
 use Rattle.mc_cache.specs.Replay.{Command, command_step}
 use Rattle.mc_cache.specs.Settling.{settled, emptied, flushed, is_due, is_dead_at, without_dead}
-use Rattle.mc_cache.specs.Step.{Outcome, flush_step, settled_step, step_of, atom_key}
+use Rattle.mc_cache.specs.Step.{StepResult, flush_step, settled_step, step_of, atom_key}
 use Rattle.mc_cache.proofs.HeldLemmas.{held-without}
 use Rattle.mc_cache_laws.specs.OneMap.{KeyOutcome}
 use Rattle.mc_cache_laws.proofs.OtherKeyLemmas.{leaves_other_keys}
@@ -131,7 +131,7 @@ own-turn s key last held command is knows =
     let settles : Knows u key last held = flushed-knows s key last held moment knows in
     let finds : Finds key moment held t.items = alive-finds u key moment held settles.known settles.within in
     let found : Option Body = cond (finds.0 || is_dead_at held moment) None held in
-    let o : Outcome = settled_step t atom moment command.refused in
+    let o : StepResult = settled_step t atom moment command.refused in
     let steps : command_step s command ≡ o = ap (λ (k : Option (List ℕ)). settled_step (settled s k moment) atom moment command.refused) is in
     let turns : Turns t key (λ given. register_step given found atom moment) o =
     subst (λ (h : Option Body). Turns t key (λ given. register_step given h atom moment) o) finds.1
@@ -151,8 +151,8 @@ own-turn s key last held command is knows =
       forgotten = finds.0;
       given = turns.given;
       may = may-less last t.counter turns.given settles.given turns.may;
-      reply = ap (λ (x : Outcome). x.1) steps ∙ turns.reply;
-      after = subst (λ (x : Outcome). Knows x.0 key (last_by last left.0) left.0) (sym steps) after;
+      reply = ap (λ (x : StepResult). x.1) steps ∙ turns.reply;
+      after = subst (λ (x : StepResult). Knows x.0 key (last_by last left.0) left.0) (sym steps) after;
     }
 
 own-runs : (s : CacheState) (key : List ℕ) (last : ℕ) (held : Option Body) (command : Command) (es : List Done) → atom_key command.atom ≡ Some key → Knows s key last held
@@ -176,15 +176,15 @@ other-knows s own key last held command is differ knows =
     let u : CacheState = flushed s moment in
     let t : CacheState = alive u own moment in
     let settles : Knows u key last held = flushed-knows s key last held moment knows in
-    let o : Outcome = settled_step t atom moment command.refused in
+    let o : StepResult = settled_step t atom moment command.refused in
     let steps : command_step s command ≡ o = ap (λ (k : Option (List ℕ)). settled_step (settled s k moment) atom moment command.refused) is in
     let turns : Turns t own (λ given. register_step given (body_at own t.items) atom moment) o =
     settled_step-turns t atom moment command.refused own is (alive-good u own moment settles.within) in
     let known : IsKnown key held (command_step s command).0.items =
     known-after key held s.items (command_step s command).0.items (leaves_other_keys s atom moment command.refused own key is differ) knows.known in
-    subst (λ (x : Outcome). Knows x.0 key last held) (sym steps) (record {
+    subst (λ (x : StepResult). Knows x.0 key last held) (sym steps) (record {
       within = turns.within;
-      known = subst (λ (x : Outcome). IsKnown key held x.0.items) steps known;
+      known = subst (λ (x : StepResult). IsKnown key held x.0.items) steps known;
       given = omega (arith, settles.given, turns.counter);
       number = omega (arith, settles.number, turns.counter);
     })

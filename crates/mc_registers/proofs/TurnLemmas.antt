@@ -28,7 +28,7 @@ use Rattle.mc_store.specs.Items.{Items, body_at, without, brought}
 use Rattle.mc_store.proofs.ItemLemmas.{body_at-brought}
 use Rattle.mc_cache.specs.CacheState.{CacheState, IsHeldWithin}
 use Rattle.mc_cache.specs.Showing.{told}
-use Rattle.mc_cache.specs.Step.{Outcome, Content, numbered, unstored, content_by, compared, fronted, store_step, touched, expiry_by, get_step, touch_step, delete_by, delete_step, counted, number_stored, count_number, count_by, count_none, count_step, update_step, made_by, looked_at, meta_get_none, meta_get_step, held_under, settled_step, stored, atom_key}
+use Rattle.mc_cache.specs.Step.{StepResult, Content, numbered, unstored, content_by, compared, fronted, store_step, touched, expiry_by, get_step, touch_step, delete_by, delete_step, counted, number_stored, count_number, count_by, count_none, count_step, update_step, made_by, looked_at, meta_get_none, meta_get_step, held_under, settled_step, stored, atom_key}
 use Rattle.mc_cache.proofs.HeldLemmas.{body_at-own, held-without, held-changed, held-brought, held-put}
 use Rattle.mc_cache.proofs.StoredLemmas.{own_key}
 use Rattle.mc_cache_laws.specs.OneMap.{KeyOutcome, touch_key, told_key}
@@ -37,7 +37,7 @@ use Rattle.mc_cache_laws.proofs.ShownLemmas.{first_item}
 use Rattle.mc_registers.specs.Registers.{Given, put_as, unless, store_as, get_as, delete_as, number_as, count_as, meta_get_as, update_as, register_step, may_give, last_by}
 
 -- an outcome is that of a register that is given a number, or a refusal, which a cache may give
-pub record Turns (s : CacheState) (key : List ℕ) (expected : Given → KeyOutcome) (o : Outcome) : Type 0 where
+pub record Turns (s : CacheState) (key : List ℕ) (expected : Given → KeyOutcome) (o : StepResult) : Type 0 where
   pub given : Given
   pub may : may_give s.counter given ≡ true
   pub reply : o.1 ≡ (expected given).1
@@ -242,7 +242,8 @@ update-turns s (Count at counting) moment refused key is good =
 update-turns s (FlushAll delay) moment refused key is good = absurd cc
 
 -- a reply as a meta command shows it
-told-turns : (s : CacheState) (key : List ℕ) (show : Show) (moment : ℕ) (marks : Marks) (expected : Given → KeyOutcome) (o : Outcome) → Turns s key expected o
+told-turns : (s : CacheState) (key : List ℕ) (show : Show) (moment : ℕ) (marks : Marks) (expected : Given → KeyOutcome) (o : StepResult)
+    → Turns s key expected o
     → Turns s key (λ given. told_key show moment marks (expected given)) (o.0, told show moment marks (body_at key o.0.items) o.1)
 told-turns s key show moment marks expected o turns = record {
   given = turns.given;
@@ -287,7 +288,7 @@ settled_step-turns s (atoms.Meta (metas.Get at get)) moment refused key is good 
     subst (λ (k : List ℕ). Turns s k (λ given. meta_get_as given (body_at k s.items) get moment) (meta_get_step s at (body_at at s.items) get moment refused)) its
     (meta_get-turns s at (body_at at s.items) get moment refused refl good)
 settled_step-turns s (atoms.Meta (metas.Update update show)) moment refused key is good =
-    let o : Outcome = update_step s update moment refused in
+    let o : StepResult = update_step s update moment refused in
     let expected : Given → KeyOutcome = λ given. update_as given (body_at key s.items) update moment in
     subst (λ (k : Option (List ℕ)). Turns s key (λ given. told_key show moment Plain (expected given)) (o.0, told show moment Plain (held_under k o.0) o.1)) (sym is)
     (told-turns s key show moment Plain expected o (update-turns s update moment refused key is good))

@@ -16,7 +16,7 @@ use Rattle.mc_reply.specs.Spelling.{head_line, key_part, blocks_of, end_line}
 use Rattle.mc_reply.proofs.SpellingLemmas.{key_part-hit}
 use Rattle.mc_cache.specs.CacheState.{CacheState}
 use Rattle.mc_cache.specs.Replay.{Command, replay, replies, AreAllowed}
-use Rattle.mc_cache.specs.Step.{step_of, Outcome}
+use Rattle.mc_cache.specs.Step.{step_of, StepResult}
 use Rattle.mc_server.specs.Served.{IsServed, Serves}
 use Rattle.mc_server.proofs.RefusalLemmas.{gets_tell_none}
 
@@ -98,8 +98,8 @@ pub lone_served : (number : ℕ) (key : List ℕ) (with_cas : Bool) (moment : �
     → IsServed number s (Whole (Get (key ∷ []) None with_cas)) moment t before whole
 lone_served number key with_cas moment s t reply before whole step whole_is =
     let part : List ℕ = key_part key (step_of s (atoms.Get key None with_cas) moment false).1 in
-    let made : t ≡ (step_of s (atoms.Get key None with_cas) moment false).0 = sym (ap (λ (o : Outcome). o.0) step) in
-    let told : reply ≡ (step_of s (atoms.Get key None with_cas) moment false).1 = sym (ap (λ (o : Outcome). o.1) step) in
+    let made : t ≡ (step_of s (atoms.Get key None with_cas) moment false).0 = sym (ap (λ (o : StepResult). o.0) step) in
+    let told : reply ≡ (step_of s (atoms.Get key None with_cas) moment false).1 = sym (ap (λ (o : StepResult). o.1) step) in
     let all : IsServing (key ∷ []) [] None with_cas moment s t before (before ++ part) =
     serving_more (key ∷ []) [] key None with_cas moment s s t before before (before ++ part) made refl (serving_none (key ∷ []) None with_cas moment s before) in
     let ends : whole ≡ (before ++ part) ++ end_line =

@@ -20,7 +20,7 @@ use Rattle.mc_reply.specs.MetaSpelling.{meta_line}
 use Rattle.mc_cache.specs.CacheState.{CacheState}
 use Rattle.mc_cache.specs.Memory.{may_refuse}
 use Rattle.mc_cache.specs.Refusals.{is_refusal}
-use Rattle.mc_cache.specs.Step.{step_of, Outcome}
+use Rattle.mc_cache.specs.Step.{step_of, StepResult}
 use Rattle.mc_server.specs.Served.{IsServed}
 use Rattle.mc_server.proofs.UpdateLemmas.{is_hidden-filled, is_refusal-filled, or_nothing}
 
@@ -36,8 +36,8 @@ pub meta_served : {V : Type 0} (number moment : ℕ) (s t : CacheState) (command
     → hides_of (requests.Meta command form) ≡ hides → after ≡ before ++ shown_meta hides form (meta_key command) (filled reply value)
     → IsServed number s (Whole (requests.Meta command form)) moment t before after
 meta_served number moment s t command form hides reply value before after outcome allowed hides_is after_is =
-    let made : (step_of s (atoms.Meta command) moment (is_refusal reply)).0 ≡ t = ap (λ (o : Outcome). o.0) outcome in
-    let told : (step_of s (atoms.Meta command) moment (is_refusal reply)).1 ≡ filled reply value = ap (λ (o : Outcome). o.1) outcome in (
+    let made : (step_of s (atoms.Meta command) moment (is_refusal reply)).0 ≡ t = ap (λ (o : StepResult). o.0) outcome in
+    let told : (step_of s (atoms.Meta command) moment (is_refusal reply)).1 ≡ filled reply value = ap (λ (o : StepResult). o.1) outcome in (
       is_refusal reply,
       record {
         legal = ((allowed, tt), sym (or_nothing (is_refusal (step_of s (atoms.Meta command) moment (is_refusal reply)).1) ∙ ap (λ (r : Reply (List ℕ)). is_refusal r) told ∙ is_refusal-filled reply value));

@@ -28,7 +28,7 @@ use Rattle.mc_reply.proofs.SpellingLemmas.{length-number}
 use Rattle.mc_store.specs.Items.{Items, body_at}
 use Rattle.mc_cache.specs.CacheState.{CacheState}
 use Rattle.mc_cache.specs.Showing.{told, item_shown}
-use Rattle.mc_cache.specs.Step.{Outcome, Content, admission, numbered, stored_by, compared, unmet, unstored, content_by, store_by, touch_step, delete_by, delete_step, counted, count_number, count_by, count_none, count_step, update_step, step_of, held_under}
+use Rattle.mc_cache.specs.Step.{StepResult, Content, admission, numbered, stored_by, compared, unmet, unstored, content_by, store_by, touch_step, delete_by, delete_step, counted, count_number, count_by, count_none, count_step, update_step, step_of, held_under}
 use Rattle.mc_cache.specs.Settling.{settled}
 use Rattle.mc_cache.proofs.StoredLemmas.{own_key}
 use Rattle.mc_reply.specs.Replies.{filled}
@@ -56,7 +56,7 @@ IsShort n held (Hit flags cas value) = ⊥
 IsShort n held (Meta shown value) = ⊥
 IsShort n held reply = Unit {0}
 
-abbrev Short : ℕ → List ℕ → Outcome → Type 0
+abbrev Short : ℕ → List ℕ → StepResult → Type 0
 Short n key o = IsShort n (body_at key o.0.items) o.1
 
 -- what is before a store, if it does
@@ -215,7 +215,7 @@ pub update_fits : {V : Type 0} (s t : CacheState) (update : Update (List ℕ) (L
     → value_len (filled reply front) ≤ (if show.value then update_value_room update else 0)
 update_fits s t update show coded moment refused reply front good by_front =
     let at = settled s (key_in update) moment in
-    let told : (step_of s (atoms.Meta (metas.Update update show)) moment refused).1 ≡ filled reply front = ap (λ (o : Outcome). o.1) by_front in
+    let told : (step_of s (atoms.Meta (metas.Update update show)) moment refused).1 ≡ filled reply front = ap (λ (o : StepResult). o.1) by_front in
     rw told at (told_fits (update_value_room update) show moment Plain _ _ (update_step-short at update coded moment refused good))
 
 -- what is true of a result that is no error

@@ -38,7 +38,7 @@ use Rattle.mc_cache.specs.Refusals.{is_refusal}
 use Rattle.mc_cache.specs.Replay.{Command, replies, AreAllowed}
 use Rattle.mc_cache.specs.Settling.{settled}
 use Rattle.mc_cache.specs.Showing.{item_shown, told}
-use Rattle.mc_cache.specs.Step.{step_of, get_step, update_step, touch_step, delete_step, delete_by, count_step, count_by, count_number, count_none, meta_step, meta_get_step, meta_get_none, made_by, held_under, unmet, unstored, compared, store_by, stored, stored_by, is_too_large, Content, Outcome}
+use Rattle.mc_cache.specs.Step.{step_of, get_step, update_step, touch_step, delete_step, delete_by, count_step, count_by, count_number, count_none, meta_step, meta_get_step, meta_get_none, made_by, held_under, unmet, unstored, compared, store_by, stored, stored_by, is_too_large, Content, StepResult}
 use Rattle.mc_server.specs.Served.{ServedRequest, answer_after, tells_refusal, IsLegalAt}
 
 -- the commands of some atoms at a moment, refused memory or not
@@ -128,7 +128,7 @@ deleted_tells_none : (s : CacheState) (key : List ℕ) (body : Body) (first : Op
 deleted_tells_none s key body (Some reply) invalidate other = other
 deleted_tells_none s key body None false other = refl
 deleted_tells_none s key body None true other =
-    let P : Outcome → Type 0 = λ o. is_refusal o.1 ≡ false in
+    let P : StepResult → Type 0 = λ o. is_refusal o.1 ≡ false in
     either P (nat_le (2 ^ 64) (s.counter + 1)) _ _ refl refl
 
 delete_tells_none : (s : CacheState) (key : List ℕ) (held : Option Body) (compare : Option ℕ) (invalidate : Bool) → is_refusal (delete_step s key held compare invalidate).1 ≡ false

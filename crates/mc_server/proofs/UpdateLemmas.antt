@@ -14,7 +14,7 @@ use Rattle.mc_reply.specs.Spelling.{is_fault, is_miss, is_bare_success, is_not_f
 use Rattle.mc_cache.specs.CacheState.{CacheState}
 use Rattle.mc_cache.specs.Memory.{may_refuse}
 use Rattle.mc_cache.specs.Refusals.{is_refusal}
-use Rattle.mc_cache.specs.Step.{step_of, Outcome}
+use Rattle.mc_cache.specs.Step.{step_of, StepResult}
 use Rattle.mc_server.specs.Served.{IsServed}
 
 abbrev nothing : List ℕ
@@ -122,8 +122,8 @@ pub update_served : {V : Type 0} (number moment : ℕ) (s t : CacheState) (updat
     → IsServed number s (Whole (requests.Update update noreply)) moment t before after
 update_served number moment s t update noreply hides reply before after step allowed hides_is after_is =
     let outcome = step [] in
-    let made : (step_of s (atoms.Update update) moment (is_refusal reply)).0 ≡ t = ap (λ (o : Outcome). o.0) outcome in
-    let told : (step_of s (atoms.Update update) moment (is_refusal reply)).1 ≡ filled reply [] = ap (λ (o : Outcome). o.1) outcome in (
+    let made : (step_of s (atoms.Update update) moment (is_refusal reply)).0 ≡ t = ap (λ (o : StepResult). o.0) outcome in
+    let told : (step_of s (atoms.Update update) moment (is_refusal reply)).1 ≡ filled reply [] = ap (λ (o : StepResult). o.1) outcome in (
       is_refusal reply,
       record {
         legal = ((allowed, tt), sym (or_nothing (is_refusal (step_of s (atoms.Update update) moment (is_refusal reply)).1) ∙ ap (λ (r : Reply (List ℕ)). is_refusal r) told ∙ is_refusal-filled reply nothing));
