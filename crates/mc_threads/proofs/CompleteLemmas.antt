@@ -33,7 +33,7 @@ use Rattle.mc_history.specs.Generations.{is_good}
 use Rattle.mc_history.specs.Made.{AreMade, Made, entry_of}
 use Rattle.mc_history.proofs.GenerationLemmas.{told_front}
 use Rattle.mc_history.proofs.MadeLemmas.{can_by_head}
-use Rattle.mc_threads.specs.Accounts.{Account, is_reply}
+use Rattle.mc_threads.specs.Accounts.{RunAccount, is_reply}
 use Rattle.mc_threads.specs.Talks.{IsQuiet, IsSilent, Talks}
 use Rattle.mc_threads.specs.Workers.{IsWorked}
 use Rattle.mc_threads.proofs.EntryLemmas.{IsMadeOf, legal_made, moments_same, replied_made, tags_made_of}
@@ -213,7 +213,7 @@ all_replies (m ∷ ms) = all_replies ms
 pub completes : (ring : RingState) (opening : CacheState) (clients : ℕ) (texts outs went came began ended : ℕ → List ℕ) (proxy : ProxyState) → IsGoodCache opening
     → Talks ring clients texts outs went came proxy → IsQuiet clients (length ring.servers) proxy
     → ((server : ℕ) → server < length ring.servers → (history : List ServedRequest) × IsWorked opening (began server) (ended server) (went server ++ codes "quit\r\n") (came server) history)
-    → Account ring opening texts outs began ended
+    → RunAccount ring opening texts outs began ended
 completes ring opening clients texts outs went came began ended proxy good_cache h quiet worked =
     let over : (client : ℕ) → IsOver h.order (texts client) (outs client) client = λ client. ⊎_elim
     (λ below. let q = quiet.answered client below in

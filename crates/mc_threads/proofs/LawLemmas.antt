@@ -15,7 +15,7 @@ use Rattle.mc_account.proofs.RisingLemmas.{commands_rise}
 use Rattle.mc_history.specs.Histories.{IsLegal, tag_in}
 use Rattle.mc_history.specs.Named.{tags_of}
 use Rattle.mc_history.specs.declared.entries.Entry.{Entry}
-use Rattle.mc_threads.specs.Accounts.{Accounts}
+use Rattle.mc_threads.specs.Accounts.{RunAccounts}
 use Rattle.mc_threads.proofs.EntryLemmas.{map_at, map_back}
 
 -- each entry of a legal history is of a command of its server
@@ -46,7 +46,7 @@ never_before a b same (inl lower) = let requests : a.request ≡ b.request = ap 
 never_before a b same (inr within) = let atoms : a.atom ≡ b.atom = ap (λ (t : Tag). t.atom) same in let lower = within.1 in omega (arith, lower, atoms)
 
 pub once : (ring : RingState) (opening : CacheState) (order : Order) (texts outs : ℕ → List ℕ) (histories : ℕ → List Entry) (began ended : ℕ → List ℕ)
-    → Accounts ring opening order texts outs histories began ended → (r s j k : ℕ) (d e : Entry) → slice_get (histories r) j ≡ Some d
+    → RunAccounts ring opening order texts outs histories began ended → (r s j k : ℕ) (d e : Entry) → slice_get (histories r) j ≡ Some d
     → slice_get (histories s) k ≡ Some e → tag_in d ≡ tag_in e → (r ≡ s) × (j ≡ k)
 once ring opening order texts outs histories began ended h r s j k d e at also same =
     let one = legal_at order r opening (histories r) j d (h.legal r) at in

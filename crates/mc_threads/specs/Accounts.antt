@@ -40,7 +40,7 @@ is_reply other = false
 
 -- The account of a run of threads, by an order in which all requests were taken. It is over the clients' texts, the bytes emitted
 -- to them, the servers' histories, and the moments that the servers' clocks had given before the run and after it, all by number.
-pub record Accounts (ring : RingState) (opening : CacheState) (order : Order) (texts outs : ℕ → List ℕ) (histories : ℕ → List Entry) (began ended : ℕ → List ℕ) : Type 0 where
+pub record RunAccounts (ring : RingState) (opening : CacheState) (order : Order) (texts outs : ℕ → List ℕ) (histories : ℕ → List Entry) (began ended : ℕ → List ℕ) : Type 0 where
   -- the order has all requests of each client, in the client's order; each was routed by this ring, its choice for lost commands is
   -- `Told`, and each of its commands has a reply
   pub asked : (client : ℕ) → taken_of client order ≡ requests_of (texts client)
@@ -61,6 +61,6 @@ pub record Accounts (ring : RingState) (opening : CacheState) (order : Order) (t
       → (quit : ℕ) × (ended server ≡ began server ++ (map (λ (e : Entry). e.moment) (histories server) ++ quit ∷ []))
 
 -- the account: such an order and such histories exist
-abbrev pub Account : RingState → CacheState → (ℕ → List ℕ) → (ℕ → List ℕ) → (ℕ → List ℕ) → (ℕ → List ℕ) → Type 0
-Account ring opening texts outs began ended =
-    (order : Order) × (histories : ℕ → List Entry) × Accounts ring opening order texts outs histories began ended
+abbrev pub RunAccount : RingState → CacheState → (ℕ → List ℕ) → (ℕ → List ℕ) → (ℕ → List ℕ) → (ℕ → List ℕ) → Type 0
+RunAccount ring opening texts outs began ended =
+    (order : Order) × (histories : ℕ → List Entry) × RunAccounts ring opening order texts outs histories began ended

@@ -2,7 +2,7 @@
 ghost use Rattle.std.specs.Prelude.{◌≡◌, ℕ, ◌≢◌, ◌<◌, ◌↔◌, [], length, vec_len, map, IfErr, IfOk, IsErrOf, IsOkUnless};
 ghost use Rattle.mc_cache.specs.CacheState.{IsWithinBounds, opening_cache};
 ghost use Rattle.mc_proxy.specs.declared.limits.TheConstants.{MAX_SESSIONS};
-ghost use Rattle.mc_threads.specs.Accounts.{Account, at, outs_of, texts_of};
+ghost use Rattle.mc_threads.specs.Accounts.{RunAccount, at, outs_of, texts_of};
 ghost use Rattle.mc_threads.specs.Causes.{EndsRun};
 ghost use Rattle.mc_threads.specs.Workers.{AreLet, WasRefused};
 
@@ -69,7 +69,7 @@ fn run_in<'s, E: 's, C: Clock + Send + Drop + 's, G: Gate + Sync, R: Threads + W
 ) -> Result<Ran<C>, Ended>
     requires bounds { IsWithinBounds config.now.budget config.now.items }
     requires clocks { vec_len clocks ≡ length config.now.ring.servers }
-    ensures account { IfOk result (λ ran. Account config.now.ring (opening_cache config.now.budget config.now.items 0) (texts_of inputs.now) (outs_of ran.outputs.items)
+    ensures account { IfOk result (λ ran. RunAccount config.now.ring (opening_cache config.now.budget config.now.items 0) (texts_of inputs.now) (outs_of ran.outputs.items)
         (at (map C.times clocks.items)) (at (map C.times ran.clocks.items))) }
     ensures outputs { IfOk result (λ ran. vec_len ran.outputs ≡ length inputs.now) }
     ensures clocks { IfOk result (λ ran. vec_len ran.clocks ≡ vec_len clocks) }
@@ -123,7 +123,7 @@ pub fn run_threads<C: Clock + Send + Drop, G: Gate + Sync, R: Threads + Wait + T
     gate: &G,
 ) -> Result<Ran<C>, ThreadsError>
     requires { IsWithinBounds config.now.budget config.now.items }
-    ensures account { IfOk result (λ ran. Account config.now.ring (opening_cache config.now.budget config.now.items 0) (texts_of inputs.now) (outs_of ran.outputs.items)
+    ensures account { IfOk result (λ ran. RunAccount config.now.ring (opening_cache config.now.budget config.now.items 0) (texts_of inputs.now) (outs_of ran.outputs.items)
         (at (map C.times clocks.items)) (at (map C.times ran.clocks.items))) }
     ensures outputs { IfOk result (λ ran. vec_len ran.outputs ≡ length inputs.now) }
     ensures clocks { IfOk result (λ ran. vec_len ran.clocks ≡ vec_len clocks) }
@@ -148,7 +148,7 @@ pub fn run_threads<C: Clock + Send + Drop, G: Gate + Sync, R: Threads + Wait + T
         move |scope| -> Result<Ran<C>, Ended>
             requires bounds { IsWithinBounds config.now.budget config.now.items }
             requires clocks { vec_len clocks ≡ length config.now.ring.servers }
-            ensures account { IfOk result (λ ran. Account config.entry.now.ring (opening_cache config.entry.now.budget config.entry.now.items 0) (texts_of inputs.entry.now) (outs_of ran.outputs.items)
+            ensures account { IfOk result (λ ran. RunAccount config.entry.now.ring (opening_cache config.entry.now.budget config.entry.now.items 0) (texts_of inputs.entry.now) (outs_of ran.outputs.items)
                 (at (map C.times clocks.items)) (at (map C.times ran.clocks.items))) }
             ensures outputs { IfOk result (λ ran. vec_len ran.outputs ≡ length inputs.entry.now) }
             ensures clocks { IfOk result (λ ran. vec_len ran.clocks ≡ vec_len clocks) }
