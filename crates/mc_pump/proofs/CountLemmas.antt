@@ -12,7 +12,7 @@ use Rattle.mc_server.specs.declared.turns.Turn.TheVariants.{Took, Idle, Closing}
 use Rattle.mc_server.proofs.ConnectionLemmas.{updated_own}
 use Rattle.mc_pump.specs.Counts.{Counts, refusal_in, refusals_in}
 use Rattle.mc_pump.specs.Rounds.{TakesTurns}
-use Rattle.mc_pump.specs.Stretches.{Stretch}
+use Rattle.mc_pump.specs.Stretches.{ConnectionStretch}
 use Rattle.mc_pump.specs.declared.limits.TheConstants.{UNSENT_MARK}
 use Rattle.mc_pump.proofs.StretchLemmas.{closing_takes_none, idle_takes_none, none_takes_none, stretch_closing, stretch_idle, stretch_none, stretch_then, stretch_took, taken_entry, then_takes_both, took_takes_one}
 use Rattle.mc_pump.proofs.RoundLemmas.{the_open}
@@ -42,7 +42,7 @@ counts_still s history count count' none same =
     subst Q (sym same) (subst P (sym none) (sum_stays (2 ^ 64) count))
 
 -- one stretch after another
-pub counts_then : (number moment count between count' : ℕ) (a b c : ServerState) (came more went yet : List ℕ) (h : Stretch number moment a b came went) (k : Stretch number moment b c more yet)
+pub counts_then : (number moment count between count' : ℕ) (a b c : ServerState) (came more went yet : List ℕ) (h : ConnectionStretch number moment a b came went) (k : ConnectionStretch number moment b c more yet)
     → Counts a.cache h.history count between → Counts b.cache k.history between count'
     → Counts a.cache (stretch_then number moment a b c came more went yet h k).history count count'
 counts_then number moment count between count' a b c came more went yet h k first second =

@@ -11,7 +11,7 @@ use Rattle.mc_server.specs.ServerState.{ServerState}
 use Rattle.mc_server.specs.Holds.{IsReplayed, Holds, ServerHolds, grown}
 use Rattle.mc_server.proofs.HistoryLemmas.{other_number, replayed-append, legal-append, answers-append, taken-append}
 use Rattle.mc_server.proofs.HoldsLemmas.{SameFor, grown-own, grown-other, stepped, stood}
-use Rattle.mc_pump.specs.Stretches.{AreOwn, Stretch}
+use Rattle.mc_pump.specs.Stretches.{AreOwn, ConnectionStretch}
 
 -- entries of one number say nothing of another
 none_taken : (number moment other : ℕ) (es : List ServedRequest) → number ≢ other → AreOwn number moment es → taken_of other es ≡ []
@@ -41,7 +41,7 @@ replayed_after opening middle now history more h k = record {
 }
 
 -- the connection of a stretch
-holds_after : (opening : CacheState) (number moment : ℕ) (text : List ℕ) (history : List ServedRequest) (sent : List ℕ) (old new : ServerState) (came went : List ℕ) (stretch : Stretch number moment old new came went)
+holds_after : (opening : CacheState) (number moment : ℕ) (text : List ℕ) (history : List ServedRequest) (sent : List ℕ) (old new : ServerState) (came went : List ℕ) (stretch : ConnectionStretch number moment old new came went)
     → IsReplayed opening history old.cache → Holds opening number text history sent stretch.before → Holds opening number (text ++ came) (history ++ stretch.history) (sent ++ went) stretch.after
 holds_after opening number moment text history sent old new came went stretch replay h =
     let more = stretch.history in
@@ -63,7 +63,7 @@ holds_after opening number moment text history sent old new came went stretch re
 
 -- the server
 pub holds_after_stretch : (opening : CacheState) (texts sent : ℕ → List ℕ) (history : List ServedRequest) (number moment : ℕ) (old new : ServerState) (came went : List ℕ)
-    → ServerHolds opening texts sent history old → (stretch : Stretch number moment old new came went)
+    → ServerHolds opening texts sent history old → (stretch : ConnectionStretch number moment old new came went)
     → ServerHolds opening (grown number came texts) (grown number went sent) (history ++ stretch.history) new
 holds_after_stretch opening texts sent history number moment old new came went h stretch =
     let own = holds_after opening number moment (texts number) history (sent number) old new came went stretch h.cache (stood opening texts sent history old number stretch.before h stretch.was) in

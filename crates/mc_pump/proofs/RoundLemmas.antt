@@ -7,7 +7,7 @@ use Rattle.mc_server.specs.Turns.{IsTurn, Steps, waiting_of, is_closed_at}
 use Rattle.mc_server.specs.declared.turns.Turn.TheVariants.{Took, Idle, Closing}
 use Rattle.mc_server.proofs.ConnectionLemmas.{updated_own}
 use Rattle.mc_request_reader.specs.Reader.{rest_of}
-use Rattle.mc_pump.specs.Stretches.{Stretch}
+use Rattle.mc_pump.specs.Stretches.{ConnectionStretch}
 use Rattle.mc_stream.specs.Sides.{HowItCame, HowItWent}
 use Rattle.mc_pump.specs.Pumps.{IsOver, IsStuck}
 use Rattle.mc_pump.specs.Rounds.{IsSentOf, Receives, Sends, StopsAt, ends_by, reads_by}
@@ -31,7 +31,7 @@ not_none None h = absurd (h refl)
 not_none (Some c) h = refl
 
 -- after a stretch the connection is open
-pub stays_open : (number moment : ℕ) (a b : ServerState) (came went : List ℕ) → Stretch number moment a b came went → IsSome (connection_at b number)
+pub stays_open : (number moment : ℕ) (a b : ServerState) (came went : List ℕ) → ConnectionStretch number moment a b came went → IsSome (connection_at b number)
 stays_open number moment a b came went h = is_open (connection_at b number) h.after (stretch_open number moment a b came went h)
 
 -- a turn leaves one less to take

@@ -12,7 +12,7 @@ use Rattle.mc_server.specs.Holds.{IsReplayed}
 use Rattle.mc_server.specs.declared.turns.Turn.TheVariants.{Took, Idle, Closing}
 use Rattle.mc_server.proofs.ConnectionLemmas.{updated_own}
 use Rattle.mc_server.proofs.HistoryLemmas.{own_number, replayed_none, replayed_takes, replayed-append, legal-append, answers-append, taken-append}
-use Rattle.mc_pump.specs.Stretches.{AreOwn, Stretch}
+use Rattle.mc_pump.specs.Stretches.{AreOwn, ConnectionStretch}
 use Rattle.mc_pump.specs.declared.limits.TheConstants.{UNSENT_MARK}
 
 -- a connection that stays what it was
@@ -40,7 +40,7 @@ own-append number moment [] fs h k = k
 own-append number moment (e ∷ es) fs h k = (h.0, h.1, own-append number moment es fs h.2 k)
 
 -- nothing has happened
-pub stretch_none : (number moment : ℕ) (s : ServerState) (c : ConnectionState) → connection_at s number ≡ Some c → Stretch number moment s s [] []
+pub stretch_none : (number moment : ℕ) (s : ServerState) (c : ConnectionState) → connection_at s number ≡ Some c → ConnectionStretch number moment s s [] []
 stretch_none number moment s c was = record {
   before = c;
   after = c;
@@ -64,7 +64,7 @@ abbrev pub taken_entry : (number moment : ℕ) (old new : ServerState) → Steps
 taken_entry number moment old new steps = record { connection = number; what = steps.step.0; moment = moment; refused = steps.step.1.served.0 }
 
 -- a turn took something
-pub stretch_took : (number moment : ℕ) (old new : ServerState) → Steps number old new (IsTurn number moment Took) → length (output_of (connection_at old number)) < UNSENT_MARK → Stretch number moment old new [] []
+pub stretch_took : (number moment : ℕ) (old new : ServerState) → Steps number old new (IsTurn number moment Took) → length (output_of (connection_at old number)) < UNSENT_MARK → ConnectionStretch number moment old new [] []
 stretch_took number moment old new steps below =
     let takes = steps.step.1 in
     let e : ServedRequest = record { connection = number; what = steps.step.0; moment = moment; refused = takes.served.0 } in
@@ -90,7 +90,8 @@ unfolding stretch_took
 took_takes_one number moment old new steps below = refl
 
 -- a turn found nothing
-pub stretch_idle : (number moment : ℕ) (old new : ServerState) → Steps number old new (IsTurn number moment Idle) → Stretch number moment old new [] []
+pub stretch_idle : (number moment : ℕ) (old new : ServerState) → Steps number old new (IsTurn number moment Idle)
+    → ConnectionStretch number moment old new [] []
 stretch_idle number moment old new steps = record {
   before = steps.before;
   after = steps.after;
@@ -110,7 +111,8 @@ unfolding stretch_idle
 idle_takes_none number moment old new steps = refl
 
 -- a turn found that nothing is read any more
-pub stretch_closing : (number moment : ℕ) (old new : ServerState) → Steps number old new (IsTurn number moment Closing) → Stretch number moment old new [] []
+pub stretch_closing : (number moment : ℕ) (old new : ServerState) → Steps number old new (IsTurn number moment Closing)
+    → ConnectionStretch number moment old new [] []
 stretch_closing number moment old new steps = record {
   before = steps.before;
   after = steps.after;
@@ -130,7 +132,7 @@ unfolding stretch_closing
 closing_takes_none number moment old new steps = refl
 
 -- a piece arrived
-pub stretch_fed : (number moment : ℕ) (piece : List ℕ) (old new : ServerState) → Steps number old new (Feeds piece) → length (output_of (connection_at old number)) < UNSENT_MARK → Stretch number moment old new piece []
+pub stretch_fed : (number moment : ℕ) (piece : List ℕ) (old new : ServerState) → Steps number old new (Feeds piece) → length (output_of (connection_at old number)) < UNSENT_MARK → ConnectionStretch number moment old new piece []
 stretch_fed number moment piece old new steps below =
     let few : length steps.before.output < UNSENT_MARK = subst (λ (c : Option ConnectionState). length (output_of c) < UNSENT_MARK) steps.was below in
     record {
@@ -154,7 +156,7 @@ fed_takes_none number moment piece old new steps below = refl
 
 -- the first bytes of the output went
 pub stretch_sent : (number moment count : ℕ) (c : ConnectionState) (old new : ServerState) → connection_at old number ≡ Some c → new ≡ sent_by number count (connection_at old number) old
-    → Stretch number moment old new [] (take count c.output)
+    → ConnectionStretch number moment old new [] (take count c.output)
 stretch_sent number moment count c old new was is =
     let after : ConnectionState = record c { output = drop count c.output } in
     let there : new ≡ record old { connections = updated number after old.connections } = is ∙ ap (λ (o : Option ConnectionState). sent_by number count o old) was in
@@ -183,8 +185,8 @@ nothing_after [] ys e = (refl, e)
 nothing_after (x ∷ xs) ys e = absurd cc
 
 -- a stretch after another that left the connection that it began with
-past : (number moment : ℕ) (a b c : ServerState) (came more went yet : List ℕ) (h : Stretch number moment a b came went) (k : Stretch number moment b c more yet)
-    → h.after ≡ k.before → Stretch number moment a c (came ++ more) (went ++ yet)
+past : (number moment : ℕ) (a b c : ServerState) (came more went yet : List ℕ) (h : ConnectionStretch number moment a b came went) (k : ConnectionStretch number moment b c more yet)
+    → h.after ≡ k.before → ConnectionStretch number moment a c (came ++ more) (went ++ yet)
 past number moment a b c came more went yet h k same =
     let legal : IsLegalHistory (replayed a.cache h.history) k.history = subst (λ (s : CacheState). IsLegalHistory s k.history) h.cache.cache k.cache.legal in
     let cache : c.cache ≡ replayed (replayed a.cache h.history) k.history = k.cache.cache ∙ ap (λ (s : CacheState). replayed s k.history) h.cache.cache in
@@ -229,18 +231,18 @@ past number moment a b c came more went yet h k same =
     }
 
 -- one stretch after another
-pub stretch_then : (number moment : ℕ) (a b c : ServerState) (came more went yet : List ℕ) → Stretch number moment a b came went → Stretch number moment b c more yet → Stretch number moment a c (came ++ more) (went ++ yet)
+pub stretch_then : (number moment : ℕ) (a b c : ServerState) (came more went yet : List ℕ) → ConnectionStretch number moment a b came went → ConnectionStretch number moment b c more yet → ConnectionStretch number moment a c (came ++ more) (went ++ yet)
 stretch_then number moment a b c came more went yet h k =
     let there : connection_at b number ≡ Some h.after = ap (λ (cs : Connections). connection_in cs number) h.is ∙ updated_own number h.before h.after a.connections h.was in
     let both : Some h.after ≡ Some k.before = sym there ∙ k.was in
     let same : h.after ≡ k.before = cc in
     past number moment a b c came more went yet h k same
 
-pub then_takes_both : (number moment : ℕ) (a b c : ServerState) (came more went yet : List ℕ) (h : Stretch number moment a b came went) (k : Stretch number moment b c more yet)
+pub then_takes_both : (number moment : ℕ) (a b c : ServerState) (came more went yet : List ℕ) (h : ConnectionStretch number moment a b came went) (k : ConnectionStretch number moment b c more yet)
     → (stretch_then number moment a b c came more went yet h k).history ≡ h.history ++ k.history
 unfolding stretch_then past
 then_takes_both number moment a b c came more went yet h k = refl
 
 -- the state in which a stretch leaves its connection
-pub stretch_open : (number moment : ℕ) (a b : ServerState) (came went : List ℕ) (h : Stretch number moment a b came went) → connection_at b number ≡ Some h.after
+pub stretch_open : (number moment : ℕ) (a b : ServerState) (came went : List ℕ) (h : ConnectionStretch number moment a b came went) → connection_at b number ≡ Some h.after
 stretch_open number moment a b came went h = ap (λ (cs : Connections). connection_in cs number) h.is ∙ updated_own number h.before h.after a.connections h.was

@@ -4,7 +4,7 @@ use Rattle.mc_server.specs.ServerState.{ConnectionState, ServerState, connection
 use Rattle.mc_server.specs.Turns.{waiting_of, is_closed_at}
 use Rattle.mc_stream.specs.Sides.{CarriesBy}
 use Rattle.mc_pump.specs.Counts.{Counts}
-use Rattle.mc_pump.specs.Stretches.{Stretch}
+use Rattle.mc_pump.specs.Stretches.{ConnectionStretch}
 use Rattle.mc_pump.specs.declared.limits.TheConstants.{UNSENT_MARK}
 use Rattle.mc_stream.specs.declared.outcomes.Pumped.{Pumped}
 use Rattle.mc_stream.specs.declared.outcomes.Pumped.TheVariants.{Blocked, Done}
@@ -31,7 +31,7 @@ Leaves other ended connection = Unit {0}
 pub record Pumps (number moment : ℕ) (pump : Pumped) (old new : ServerState) (unread unread' written written' : Option (List ℕ)) (ended ended' : Bool) (count count' : ℕ) : Type 0 where
   pub came : List ℕ
   pub went : List ℕ
-  pub stretch : Stretch number moment old new came went
+  pub stretch : ConnectionStretch number moment old new came went
   pub carried : CarriesBy pump unread unread' written written' ended ended' came went
   pub left : Leaves pump ended' (connection_at new number)
   pub counted : Counts old.cache stretch.history count count'

@@ -4,7 +4,7 @@ use Rattle.mc_server.specs.ServerState.{ConnectionState, ServerState, connection
 use Rattle.mc_server.specs.Turns.{waiting_of, is_closed_at}
 use Rattle.mc_stream.specs.Sides.{HowItCame, HowItWent}
 use Rattle.mc_pump.specs.Counts.{Counts}
-use Rattle.mc_pump.specs.Stretches.{Stretch}
+use Rattle.mc_pump.specs.Stretches.{ConnectionStretch}
 use Rattle.mc_pump.specs.declared.limits.TheConstants.{UNSENT_MARK}
 use Rattle.mc_stream.specs.declared.outcomes.Pumped.{Pumped}
 use Rattle.mc_pump.specs.declared.rounds.Stop.{Stop}
@@ -12,7 +12,7 @@ use Rattle.mc_pump.specs.declared.rounds.Stop.TheVariants.{Idle, Closing, Marked
 
 -- turns, and how the watch counts their answers
 pub record TakesTurns (number moment : ℕ) (old new : ServerState) (count count' : ℕ) : Type 0 where
-  pub stretch : Stretch number moment old new [] []
+  pub stretch : ConnectionStretch number moment old new [] []
   pub counted : Counts old.cache stretch.history count count'
 
 -- why the turns of a round stopped
@@ -46,7 +46,7 @@ pub record IsSentOf (old new : Option ConnectionState) : Type 0 where
 -- a write of what is unsent: nothing is taken, and nothing is counted
 pub record Sends (number moment : ℕ) (side : Result Bool Pumped) (old new : ServerState) (written written' : Option (List ℕ)) (count count' : ℕ) : Type 0 where
   pub went : List ℕ
-  pub stretch : Stretch number moment old new [] went
+  pub stretch : ConnectionStretch number moment old new [] went
   pub untaken : stretch.history ≡ []
   pub uncounted : count' ≡ count
   pub how : HowItWent side written written' went (new ≡ old)
@@ -55,7 +55,7 @@ pub record Sends (number moment : ℕ) (side : Result Bool Pumped) (old new : Se
 -- a read, of which the connection is fed: nothing is taken, and nothing is counted
 pub record Receives (number moment : ℕ) (side : Result Bool Pumped) (old new : ServerState) (unread unread' : Option (List ℕ)) (ended' : Bool) (count count' : ℕ) : Type 0 where
   pub came : List ℕ
-  pub stretch : Stretch number moment old new came []
+  pub stretch : ConnectionStretch number moment old new came []
   pub untaken : stretch.history ≡ []
   pub uncounted : count' ≡ count
   pub how : HowItCame side unread unread' ended' came (new ≡ old)

@@ -15,7 +15,7 @@ AreOwn number moment (e ∷ es) = (e.connection ≡ number) × (e.moment ≡ mom
 -- The requests and faults taken are the first that the connection's rest has for the bytes that arrived, and the others stay. The
 -- cache is the one after their commands, all at the moment. The sent bytes and the output that is left are the old output and
 -- their answers. All else of the server is as it was. While the unsent bytes reach the mark, nothing arrives and nothing is taken.
-pub record Stretch (number moment : ℕ) (old new : ServerState) (came went : List ℕ) : Type 0 where
+pub record ConnectionStretch (number moment : ℕ) (old new : ServerState) (came went : List ℕ) : Type 0 where
   pub before : ConnectionState
   pub after : ConnectionState
   pub was : connection_at old number ≡ Some before
