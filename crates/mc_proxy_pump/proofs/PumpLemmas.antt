@@ -6,7 +6,7 @@ use Rattle.mc_stream.specs.Sides.{IsStopOfSide}
 use Rattle.mc_stream.specs.declared.outcomes.Pumped.{Pumped}
 use Rattle.mc_stream.specs.declared.outcomes.Pumped.TheVariants.{Again, Blocked, Done, Failed}
 use Rattle.mc_stream.proofs.SideLemmas.{came_any, carried_as, carried_then, carried_unheard, carries_brought, carries_none, carries_sent, stop_of_read, went_any}
-use Rattle.mc_proxy_pump.specs.Calls.{Stretch}
+use Rattle.mc_proxy_pump.specs.Calls.{SessionStretch}
 use Rattle.mc_proxy_pump.specs.Clients.{Leaves, PumpsClient}
 use Rattle.mc_proxy_pump.specs.Rounds.{Receives, Sends}
 use Rattle.mc_proxy_pump.proofs.StretchLemmas.{stretch_none, stretch_then}
@@ -43,7 +43,7 @@ left_by_side Failed ended proxy session h = tt
 
 -- turns alone
 pub pumps_turns : (number : ℕ) (pump : Pumped) (a b : ProxyState) (unread written : Option (List ℕ)) (ended : Bool) (missed missed' : Option ℕ)
-    → Stretch number a b [] [] missed missed' → Leaves pump ended b (session_at b number) → PumpsClient number pump a b unread unread written written ended ended missed missed'
+    → SessionStretch number a b [] [] missed missed' → Leaves pump ended b (session_at b number) → PumpsClient number pump a b unread unread written written ended ended missed missed'
 pumps_turns number pump a b unread written ended missed missed' h left = record {
   came = [];
   went = [];
@@ -100,7 +100,7 @@ pumps_unheard number pump a b unread unread' written ended ended' missed missed'
 
 -- turns, a write, and then a stop
 pub stopped : (number : ℕ) (moved : Bool) (pump : Pumped) (a b c : ProxyState) (unread written written' : Option (List ℕ)) (ended : Bool) (first second third : Option ℕ)
-    → Stretch number a b [] [] first second → Sends number (Ok moved) b c written written' second third → Leaves pump ended c (session_at c number)
+    → SessionStretch number a b [] [] first second → Sends number (Ok moved) b c written written' second third → Leaves pump ended c (session_at c number)
     → PumpsClient number pump a c unread unread written written' ended ended first third
 stopped number moved pump a b c unread written written' ended first second third turns sent left =
     let before = pumps_turns number Again a b unread written ended first second turns tt in

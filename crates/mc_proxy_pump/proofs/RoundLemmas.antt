@@ -21,7 +21,7 @@ use Rattle.mc_proxy.specs.Turns.{Alone, HasAnswer, Steps, hides_loss_at, waiting
 use Rattle.mc_proxy.proofs.StepLemmas.{sent_at, steps_at, steps_still}
 use Rattle.mc_stream.specs.Sides.{HowItCame, HowItWent}
 use Rattle.mc_stream.specs.declared.outcomes.Pumped.{Pumped}
-use Rattle.mc_proxy_pump.specs.Calls.{Fed, Turned, Emitted, Rested, Sent, Stretch}
+use Rattle.mc_proxy_pump.specs.Calls.{Fed, Turned, Emitted, Rested, Sent, SessionStretch}
 use Rattle.mc_proxy_pump.specs.Clients.{IsHeldUpAt, IsOver, IsStuck, emitted_at, is_closed_at}
 use Rattle.mc_proxy_pump.specs.Tallies.{counted}
 use Rattle.mc_proxy_pump.specs.Rounds.{HasAnswered, HowMany, IsSentOf, Receives, Sends, StopsAt, ends_by, reads_by, work_of}
@@ -30,7 +30,7 @@ use Rattle.mc_proxy_pump.proofs.StretchLemmas.{is_open, stretch_none, stretch_on
 -- a turn is a call
 pub stretch_turned : (number : ℕ) (turn : SessionTurn) (old new : ProxyState) (missed : Option ℕ)
     → Steps number old new (IsTurn number turn old.ring old.losses)
-    → Stretch number old new [] [] missed missed
+    → SessionStretch number old new [] [] missed missed
 stretch_turned number turn old new missed steps =
     stretch_one number (Turned turn) old new missed steps (is_open (session_at new number) steps.after (steps_at number old new (IsTurn number turn old.ring old.losses) steps))
 
@@ -107,17 +107,17 @@ had_answer number old new steps = (steps.before, steps.was, λ none. let clash :
 pub stretch_emitted : (number : ℕ) (old new : ProxyState) (looked : Bool) (missed missed' : Option ℕ) → Steps number old new (Alone (IsEmit emits.Done))
     → length (output_of (session_at old number)) < UNSENT_MARK
     → (IsTrue looked ↔ (IsSome missed × HasAnswer number old × (hides_loss_at (session_at old number) ≡ true)))
-    → missed' ≡ counted looked missed → Stretch number old new [] [] missed missed'
+    → missed' ≡ counted looked missed → SessionStretch number old new [] [] missed missed'
 stretch_emitted number old new looked missed missed' steps below looks is =
     let same : counted (hides_loss_at (session_at old number)) missed ≡ missed' =
     sym (is ∙ counted_alike (HasAnswer number old) looked (hides_loss_at (session_at old number)) missed (had_answer number old new steps) looks) in
-    subst (λ (m : Option ℕ). Stretch number old new [] [] missed m) same
+    subst (λ (m : Option ℕ). SessionStretch number old new [] [] missed m) same
     (stretch_one number (Emitted (hides_loss_at (session_at old number))) old new missed (steps, below, refl)
     (is_open (session_at new number) steps.after (steps_at number old new (Alone (IsEmit emits.Done)) steps)))
 
 -- finding no known answer is a call too
 pub stretch_rested : (number : ℕ) (old new : ProxyState) (missed : Option ℕ) → Steps number old new (Alone (IsEmit emits.Idle)) → length (output_of (session_at old number)) < UNSENT_MARK
-    → Stretch number old new [] [] missed missed
+    → SessionStretch number old new [] [] missed missed
 stretch_rested number old new missed steps below =
     stretch_one number Rested old new missed (steps, below) (is_open (session_at new number) steps.after (steps_at number old new (Alone (IsEmit emits.Idle)) steps))
 
@@ -209,7 +209,7 @@ receives_still number side s unread unread' ended' missed there how = record { c
 
 -- a piece arrived
 pub stretch_fed : (number : ℕ) (piece : List ℕ) (old new : ProxyState) (missed : Option ℕ) → Steps number old new (Alone (IsFed piece)) → waiting_of (session_at old number) ≡ []
-    → length (output_of (session_at old number)) < UNSENT_MARK → Stretch number old new piece [] missed missed
+    → length (output_of (session_at old number)) < UNSENT_MARK → SessionStretch number old new piece [] missed missed
 stretch_fed number piece old new missed steps none below =
     stretch_one number (Fed piece) old new missed (steps, none, below) (is_open (session_at new number) steps.after (steps_at number old new (Alone (IsFed piece)) steps))
 

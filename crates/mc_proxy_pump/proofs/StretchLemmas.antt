@@ -3,7 +3,7 @@ use Rattle.std.proofs.Common.{◌≡◌, ◌∙◌, ℕ, true, false, List, [], 
 use Rattle.std.proofs.lemmas.List.{append-nil}
 use Rattle.mc_proxy.specs.SessionState.{SessionState}
 use Rattle.mc_proxy.specs.ProxyState.{ProxyState, session_at}
-use Rattle.mc_proxy_pump.specs.Calls.{Call, Calls, Fed, Turned, Emitted, Rested, Sent, IsCall, Stretch, came_by, came_of, missed_by, went_by, went_of}
+use Rattle.mc_proxy_pump.specs.Calls.{Call, Calls, Fed, Turned, Emitted, Rested, Sent, IsCall, SessionStretch, came_by, came_of, missed_by, went_by, went_of}
 use Rattle.mc_proxy_pump.specs.Tallies.{counted}
 
 -- an open session
@@ -38,12 +38,12 @@ calls-append number [] ys a b c h k = subst (λ (p : ProxyState). Calls number y
 calls-append number (x ∷ xs) ys a b c h k = (h.0, (h.1.0, calls-append number xs ys h.0 b c h.1.1 k))
 
 -- no call
-pub stretch_none : (number : ℕ) (s : ProxyState) (missed : Option ℕ) → IsSome (session_at s number) → Stretch number s s [] [] missed missed
+pub stretch_none : (number : ℕ) (s : ProxyState) (missed : Option ℕ) → IsSome (session_at s number) → SessionStretch number s s [] [] missed missed
 stretch_none number s missed there = record { calls = []; chain = refl; came_is = refl; went_is = refl; missed_is = refl; still_open = there }
 
 -- one call
 pub stretch_one : (number : ℕ) (call : Call) (a b : ProxyState) (missed : Option ℕ) → IsCall number call a b → IsSome (session_at b number)
-    → Stretch number a b (came_by call) (went_by call) missed (missed_by (call ∷ []) missed)
+    → SessionStretch number a b (came_by call) (went_by call) missed (missed_by (call ∷ []) missed)
 stretch_one number call a b missed h there = record {
   calls = call ∷ [];
   chain = (b, (h, refl));
@@ -54,8 +54,8 @@ stretch_one number call a b missed h there = record {
 }
 
 -- one stretch and then another
-pub stretch_then : (number : ℕ) (a b c : ProxyState) (came more went yet : List ℕ) (first second third : Option ℕ) → Stretch number a b came went first second → Stretch number b c more yet second third
-    → Stretch number a c (came ++ more) (went ++ yet) first third
+pub stretch_then : (number : ℕ) (a b c : ProxyState) (came more went yet : List ℕ) (first second third : Option ℕ) → SessionStretch number a b came went first second → SessionStretch number b c more yet second third
+    → SessionStretch number a c (came ++ more) (went ++ yet) first third
 stretch_then number a b c came more went yet first second third h k = record {
   calls = h.calls ++ k.calls;
   chain = calls-append number h.calls k.calls a b c h.chain k.chain;

@@ -65,7 +65,7 @@ missed_by (other ∷ calls) missed = missed_by calls missed
 
 -- Calls for an open session by which these bytes arrived and these were sent. They take the one count of answers that hide a loss to
 -- the other. The session is open after them.
-pub record Stretch (number : ℕ) (old new : ProxyState) (came went : List ℕ) (missed missed' : Option ℕ) : Type 0 where
+pub record SessionStretch (number : ℕ) (old new : ProxyState) (came went : List ℕ) (missed missed' : Option ℕ) : Type 0 where
   pub calls : List Call
   pub chain : Calls number calls old new
   pub came_is : came_of calls ≡ came

@@ -11,7 +11,7 @@ use Rattle.mc_proxy.specs.Turns.{waiting_of}
 use Rattle.mc_stream.specs.Sides.{CarriesBy}
 use Rattle.mc_stream.specs.declared.outcomes.Pumped.{Pumped}
 use Rattle.mc_stream.specs.declared.outcomes.Pumped.TheVariants.{Blocked, Done}
-use Rattle.mc_proxy_pump.specs.Calls.{Stretch}
+use Rattle.mc_proxy_pump.specs.Calls.{SessionStretch}
 
 -- whether a session is closed to input; false if it is not open
 abbrev pub is_closed_at : Option SessionState → Bool
@@ -58,6 +58,6 @@ Leaves other ended proxy session = Unit {0}
 pub record PumpsClient (number : ℕ) (pump : Pumped) (old new : ProxyState) (unread unread' written written' : Option (List ℕ)) (ended ended' : Bool) (missed missed' : Option ℕ) : Type 0 where
   pub came : List ℕ
   pub went : List ℕ
-  pub stretch : Stretch number old new came went missed missed'
+  pub stretch : SessionStretch number old new came went missed missed'
   pub carried : CarriesBy pump unread unread' written written' ended ended' came went
   pub left : Leaves pump ended' new (session_at new number)

@@ -8,7 +8,7 @@ use Rattle.mc_proxy.specs.ProxyState.{ProxyState, output_of, session_at, unanswe
 use Rattle.mc_proxy.specs.Turns.{waiting_of}
 use Rattle.mc_stream.specs.Sides.{HowItCame, HowItWent}
 use Rattle.mc_stream.specs.declared.outcomes.Pumped.{Pumped}
-use Rattle.mc_proxy_pump.specs.Calls.{Stretch}
+use Rattle.mc_proxy_pump.specs.Calls.{SessionStretch}
 use Rattle.mc_proxy_pump.specs.Clients.{IsHeldUpAt, emitted_at, is_closed_at}
 
 -- how much a session has to do: each request that is taken lessens it, and so does each answer that is emitted
@@ -35,7 +35,7 @@ reads_by other ended marked = false
 
 -- requests are taken until none can be, and no answer is counted
 pub record TakesTurns (number : ℕ) (old new : ProxyState) (missed missed' : Option ℕ) : Type 0 where
-  pub stretch : Stretch number old new [] [] missed missed'
+  pub stretch : SessionStretch number old new [] [] missed missed'
   pub uncounted : missed' ≡ missed
   pub fewer : work_of (session_at new number) ≤ work_of (session_at old number)
 
@@ -58,7 +58,7 @@ pub record IsSentOf (old new : Option SessionState) : Type 0 where
 -- a write of the unsent output: no answer is counted
 pub record Sends (number : ℕ) (side : Result Bool Pumped) (old new : ProxyState) (written written' : Option (List ℕ)) (missed missed' : Option ℕ) : Type 0 where
   pub went : List ℕ
-  pub stretch : Stretch number old new [] went missed missed'
+  pub stretch : SessionStretch number old new [] went missed missed'
   pub uncounted : missed' ≡ missed
   pub how : HowItWent side written written' went (new ≡ old)
   pub same : IsSentOf (session_at old number) (session_at new number)
@@ -66,6 +66,6 @@ pub record Sends (number : ℕ) (side : Result Bool Pumped) (old new : ProxyStat
 -- a read, which feeds the session: no answer is counted
 pub record Receives (number : ℕ) (side : Result Bool Pumped) (old new : ProxyState) (unread unread' : Option (List ℕ)) (ended' : Bool) (missed missed' : Option ℕ) : Type 0 where
   pub came : List ℕ
-  pub stretch : Stretch number old new came [] missed missed'
+  pub stretch : SessionStretch number old new came [] missed missed'
   pub uncounted : missed' ≡ missed
   pub how : HowItCame side unread unread' ended' came (new ≡ old)

@@ -3,7 +3,7 @@ ghost use Rattle.std.specs.Prelude.{◌≡◌, ◌<◌, ◌==◌, ◌&&◌, ◌�
 ghost use Rattle.mc_proxy.specs.ProxyState.{output_of, session_at, unanswered_of};
 ghost use Rattle.mc_proxy.specs.Turns.{HasAnswer, hides_loss_at, waiting_of};
 ghost use Rattle.mc_stream.specs.Sides.{pump_of};
-ghost use Rattle.mc_proxy_pump.specs.Calls.{Stretch};
+ghost use Rattle.mc_proxy_pump.specs.Calls.{SessionStretch};
 ghost use Rattle.mc_proxy_pump.specs.Clients.{PumpsClient, emitted_at, is_closed_at, is_owed_at};
 ghost use Rattle.mc_proxy_pump.specs.Rounds.{HasAnswered, HowMany, Receives, Sends, StopsAt, TakesTurns, ends_by, reads_by};
 
@@ -156,7 +156,7 @@ fn advance(
     tally: &mut ClientTally,
 ) -> Result<SessionTurn, ProxyError>
     requires is_open { IsSome (session_at proxy.old session) }
-    ensures calls { Stretch session proxy.old proxy.new [] [] tally.old.missed tally.new.missed }
+    ensures calls { SessionStretch session proxy.old proxy.new [] [] tally.old.missed tally.new.missed }
     ensures stop { IfOk result (λ turn. StopsAt turn proxy.new (session_at proxy.new session)) }
     ensures answered { IfOk result (λ turn. HasAnswered (session_at proxy.new session)) }
 {
@@ -191,7 +191,7 @@ fn take_turns(
 /// Emits the answers that are known, until the unsent bytes reach the mark, and returns whether there was one.
 fn put_out(proxy: &mut Proxy, session: u64, tally: &mut ClientTally) -> Result<bool, ProxyError>
     requires is_open { IsSome (session_at proxy.old session) }
-    ensures calls { Stretch session proxy.old proxy.new [] [] tally.old.missed tally.new.missed }
+    ensures calls { SessionStretch session proxy.old proxy.new [] [] tally.old.missed tally.new.missed }
     ensures how { IfOk result (λ answered. HowMany answered session proxy.old proxy.new) }
     ensures answered { IfOk result (λ answered. HasAnswered (session_at proxy.new session)) }
 {

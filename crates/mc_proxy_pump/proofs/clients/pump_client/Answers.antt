@@ -2,7 +2,7 @@ use Rattle.std.proofs.Common.{◌≡◌, ℕ, [], Option, sym, subst}
 use Rattle.mc_proxy.specs.ProxyState.{ProxyState}
 use Rattle.mc_stream.specs.declared.outcomes.Pumped.TheVariants.{Again, Failed}
 use Rattle.mc_proxy_pump.proofs.PumpLemmas.{pumps_then, pumps_turns}
-use Rattle.mc_proxy_pump.specs.Calls.{Stretch}
+use Rattle.mc_proxy_pump.specs.Calls.{SessionStretch}
 use Rattle.mc_proxy_pump.specs.Clients.{PumpsClient}
 use Rattle.mc_proxy_pump.proofs.RoundLemmas.{stretch_turned}
 use Rattle.mc_proxy_pump.proofs.StretchLemmas.{stretch_none}
@@ -10,7 +10,7 @@ use Rattle.mc_proxy_pump.proofs.clients.pump_client.Goals as goal
 
 pub loop-init : goal.loop-init
 loop-init g c =
-    let P : Option ℕ → Type 0 = λ m. Stretch c.args.session c.args.proxy.now c.turn.new.self [] [] c.args.tally.now.missed m in
+    let P : Option ℕ → Type 0 = λ m. SessionStretch c.args.session c.args.proxy.now c.turn.new.self [] [] c.args.tally.now.missed m in
     pumps_turns c.args.session Again c.args.proxy.now c.turn.new.self (g.R.Read.remaining c.args.reader.now) (g.W.Write.contents c.args.writer.now) c.args.ended.now c.args.tally.now.missed c.count_turn.new.tally.missed
     (subst P (sym c.count_turn.ensures) (stretch_turned c.args.session c.in-Ok.turn c.args.proxy.now c.turn.new.self c.args.tally.now.missed c.in-Ok.ensures.turn)) tt
 
