@@ -6,7 +6,7 @@ use crate::acceptors::Backlog;
 use crate::conns::{Known, LIST_LEN, Listed, Owed, conn_of};
 use crate::first_lines::FirstLine;
 use crate::handlers::{Client, Handler};
-use crate::inputs::Edge;
+use crate::inputs::Readiness;
 use crate::limits::KEPT_ROOM;
 use crate::openings::{Opening, Stranger};
 use crate::reports::Report;
@@ -232,7 +232,7 @@ impl<K: Default + Drop> Clients<K> {
                 stream,
                 number,
                 ended: false,
-                edge: Edge::new(),
+                readiness: Readiness::new(),
                 first: FirstLine::new(),
                 kept: K::default(),
             },
@@ -262,7 +262,7 @@ impl<K: Default + Drop> Clients<K> {
     {
         let Token(key) = event.token();
         if let Some(seat) = self.seats.get_mut(key) {
-            seat.client.edge.note(event);
+            seat.client.readiness.note(event);
             seat.used = moment;
             self.serve(handler, key, moment);
         }
@@ -303,7 +303,7 @@ impl<K: Default + Drop> Clients<K> {
             return;
         };
         if !seat.known {
-            match opening(&seat.client.stream, seat.client.edge) {
+            match opening(&seat.client.stream, seat.client.readiness) {
                 Opening::Unsettled => return,
                 Opening::Text => seat.known = true,
                 Opening::Strange(stranger) => {

@@ -2,7 +2,7 @@
 ghost use Rattle.std.specs.Prelude.{◌≡◌, ◌<◌, ◌^◌};
 
 use crate::first_lines::FirstLine;
-use crate::inputs::Edge;
+use crate::inputs::Readiness;
 use crate::steps::AfterPump;
 use mc_stream::Tally;
 use mio::net::TcpStream;
@@ -17,7 +17,7 @@ pub struct Client<K> {
     /// Whether its input has ended.
     pub ended: bool,
     /// What is known of its input.
-    pub edge: Edge,
+    pub readiness: Readiness,
     /// What is known of its first line.
     pub first: FirstLine,
     /// What its handler keeps of it.

@@ -10,64 +10,64 @@ use std::io::{ErrorKind, Read};
 
 /// What the last event and the reads since say of a stream's input.
 #[derive(Clone, Copy, Debug, PartialEq, Eq)]
-pub struct Edge {
+pub struct Readiness {
     /// Whether all that had arrived is read: until the next event there is no more.
-    drained: bool,
+    would_block: bool,
     /// Whether the peer has said that it will send no more, so that the end must still be read.
-    to_the_end: bool,
+    peer_closed: bool,
 }
 
-impl Edge {
+impl Readiness {
     /// Makes the state of a stream without an event: nothing has arrived.
-    pub fn new() -> Edge
-        ensures drained { result.drained ≡ true }
-        ensures to_the_end { result.to_the_end ≡ false }
+    pub fn new() -> Readiness
+        ensures would_block { result.would_block ≡ true }
+        ensures peer_closed { result.peer_closed ≡ false }
     {
-        Edge {
-            drained: true,
-            to_the_end: false,
+        Readiness {
+            would_block: true,
+            peer_closed: false,
         }
     }
 
     /// Returns whether all that had arrived is read: until the next event there is no more.
-    pub fn is_drained(&self) -> bool
-        ensures { result ≡ self.now.drained }
+    pub fn would_block(&self) -> bool
+        ensures { result ≡ self.now.would_block }
     {
-        self.drained
+        self.would_block
     }
 
     /// Returns whether the peer has said that it will send no more, or has failed.
-    pub fn is_to_the_end(&self) -> bool
-        ensures { result ≡ self.now.to_the_end }
+    pub fn peer_closed(&self) -> bool
+        ensures { result ≡ self.now.peer_closed }
     {
-        self.to_the_end
+        self.peer_closed
     }
 
     /// Records what an event says of the stream: whether bytes have arrived, and whether it has ended or failed.
     pub fn note(&mut self, event: &Event)
-        ensures drained { self.new.drained
-            ≡ (self.old.drained && not (is_read_closed event.now || is_error event.now || is_readable event.now)) }
-        ensures to_the_end { self.new.to_the_end ≡ (self.old.to_the_end || is_read_closed event.now || is_error event.now) }
+        ensures would_block { self.new.would_block
+            ≡ (self.old.would_block && not (is_read_closed event.now || is_error event.now || is_readable event.now)) }
+        ensures peer_closed { self.new.peer_closed ≡ (self.old.peer_closed || is_read_closed event.now || is_error event.now) }
     {
         let ended = event.is_read_closed() || event.is_error();
         if ended || event.is_readable() {
-            self.drained = false;
+            self.would_block = false;
         }
         if ended {
-            self.to_the_end = true;
+            self.peer_closed = true;
         }
     }
 }
 
 /// The input of a stream with events. A read that returns fewer bytes than were asked for has emptied it, and the next one
-/// need not ask the system. It drops and repeats no byte of its stream. Its maker keeps the edge after the reads for the
+/// need not ask the system. It drops and repeats no byte of its stream. Its maker keeps the readiness after the reads for the
 /// next input.
 #[derive(Drop)]
 pub struct Input<R> {
     /// The source of the bytes: a nonblocking socket, or another reader that does not block.
     pub stream: R,
     /// What is known of its input.
-    pub edge: Edge,
+    pub readiness: Readiness,
 }
 
 impl<R: Read> Read for Input<R> {
@@ -76,16 +76,16 @@ impl<R: Read> Read for Input<R> {
     fn read(&mut self, piece: &mut [u8]) -> io::Result<usize>
         ensures bound { ReadsAtMost result piece.new }
         ensures bytes { ReadConsumes (R.remaining self.old.stream) (R.remaining self.new.stream) result piece.new }
-        ensures drained { self.old.edge.drained ≡ true → IsErr result × (self.new ≡ self.old) }
-        ensures edge { IfOk result (λ count. self.new.edge.drained ≡ (nat_lt count (length piece.new) && not self.old.edge.to_the_end)) }
-        ensures to_the_end { self.new.edge.to_the_end ≡ self.old.edge.to_the_end }
+        ensures would_block { self.old.readiness.would_block ≡ true → IsErr result × (self.new ≡ self.old) }
+        ensures readiness { IfOk result (λ count. self.new.readiness.would_block ≡ (nat_lt count (length piece.new) && not self.old.readiness.peer_closed)) }
+        ensures peer_closed { self.new.readiness.peer_closed ≡ self.old.readiness.peer_closed }
     {
-        if self.edge.drained {
+        if self.readiness.would_block {
             return Err(io::Error::from(ErrorKind::WouldBlock));
         }
         let count = self.stream.read(piece)?;
         // While the end must still be read, the stream is not emptied: no further event may report it.
-        self.edge.drained = count < piece.len() && !self.edge.to_the_end;
+        self.readiness.would_block = count < piece.len() && !self.readiness.peer_closed;
         Ok(count)
     }
 }

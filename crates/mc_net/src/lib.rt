@@ -3,7 +3,7 @@
 //! [`bind`] makes a listener, at the [`first_address`] of a host; [`spelled_address`] is that of a text that needs no look-up. An
 //! [`Acceptor`] is a listener and how many connections it has accepted. The poll with which it is [registered](Acceptor::register) reports
 //! it, which is [recorded](Acceptor::note), and [`Acceptor::accept`] returns the connections, one by one. If the system gives none, a
-//! [`Backlog`] says why. An [`Edge`] keeps what the events of a socket say ([`Edge::note`]). An [`Input`] is the reader over both: it asks
+//! [`Backlog`] says why. A [`Readiness`] keeps what the events of a socket say ([`Readiness::note`]). An [`Input`] is the reader over both: it asks
 //! the system for no bytes that are known to be missing. [`step_after`] says what is done with a client whose pump ended, and a
 //! [`Stopwatch`] how long a program has served. [`keep_alive`] and [`keep_alive_by`] make the system detect peers that vanished, and
 //! [`reset`] gives a connection up. [`PIECE_LEN`] and [`KEPT_ROOM`] are limits shared by all programs on sockets.
@@ -105,7 +105,7 @@ pub use conns::{LIST_LEN, Listed, Owed};
 pub use first_lines::FirstLine;
 pub use guards::Guard;
 pub use handlers::{Client, Handler};
-pub use inputs::{Edge, Input};
+pub use inputs::{Input, Readiness};
 pub use keeping::{CLIENT_KEEPALIVE, Keepalive, keep_alive, keep_alive_by};
 pub use limits::{KEPT_ROOM, PIECE_LEN};
 pub use openings::{OPENING_LEN, Opening, Stranger, opening_of};

@@ -3,7 +3,7 @@ ghost use Rattle.std.specs.Prelude.{◌≡◌, ◌<◌, length};
 ghost use Rattle.mc_net.specs.Listings.{listing_of};
 
 use crate::budgets::Budget;
-use crate::inputs::{Edge, Input};
+use crate::inputs::{Input, Readiness};
 use crate::steps::AfterPump;
 use mc_admin::{AdminError, AdminRequest, Hosts, REQUEST_LIMIT, Sheet, Talk};
 use mc_stream::{Pumped, read_once, write_once};
@@ -33,7 +33,7 @@ pub struct Seat {
     /// Its own address, as text.
     own: String,
     talk: Talk,
-    edge: Edge,
+    readiness: Readiness,
     /// Whether its last answer was sent: bytes that arrive are dropped.
     over: bool,
     /// Whether something may be done for it.
@@ -54,7 +54,7 @@ impl Seat {
             stream,
             own,
             talk: Talk::new(alloc)?,
-            edge: Edge::new(),
+            readiness: Readiness::new(),
             over: false,
             stirred: false,
             listing: None,
@@ -65,7 +65,7 @@ impl Seat {
 
     /// Records what an event says.
     pub fn note(&mut self, event: &Event) {
-        self.edge.note(event);
+        self.readiness.note(event);
         self.stirred = true;
     }
 
@@ -162,10 +162,10 @@ impl Seat {
         let mut ended = false;
         let mut input = Input {
             stream: &self.stream,
-            edge: self.edge,
+            readiness: self.readiness,
         };
         let read = read_once(&mut input, piece, &mut ended);
-        self.edge = input.edge;
+        self.readiness = input.readiness;
         match read {
             Ok(0) if ended => Some(AfterPump::Close),
             Ok(0) => Some(AfterPump::Wait),

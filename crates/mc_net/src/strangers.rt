@@ -1,6 +1,6 @@
 //! Strangers: clients that do not speak the text protocol, and how their refusal is reported.
 
-use crate::inputs::Edge;
+use crate::inputs::Readiness;
 use crate::openings::{OPENING_LEN, Opening, Stranger, opening_of};
 use mio::net::TcpStream;
 use std::fmt;
@@ -27,11 +27,11 @@ impl Display for Refusal {
     }
 }
 
-/// Returns what the first bytes of a client are, which stay unread. Its edge has recorded the client's events.
+/// Returns what the first bytes of a client are, which stay unread. Its readiness has recorded the client's events.
 ///
 /// A client that has ended or failed is no stranger: the reader of its bytes sees the end of them.
-pub fn opening(stream: &TcpStream, edge: Edge) -> Opening {
-    if edge.is_drained() {
+pub fn opening(stream: &TcpStream, readiness: Readiness) -> Opening {
+    if readiness.would_block() {
         return Opening::Unsettled;
     }
     let mut first = [0; OPENING_LEN];
@@ -43,7 +43,7 @@ pub fn opening(stream: &TcpStream, edge: Edge) -> Opening {
         Err(error) if error.kind() == ErrorKind::WouldBlock => Opening::Unsettled,
         Err(_) => Opening::Text,
     };
-    if opening == Opening::Unsettled && edge.is_to_the_end() {
+    if opening == Opening::Unsettled && readiness.peer_closed() {
         return Opening::Text;
     }
     opening

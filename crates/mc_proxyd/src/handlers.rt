@@ -87,7 +87,7 @@ impl ProxyHandler {
                 stream: &client.stream,
                 first: client.first,
             },
-            edge: client.edge,
+            readiness: client.readiness,
         };
         let mut output = &client.stream;
         let pumped = pump_client(
@@ -99,7 +99,7 @@ impl ProxyHandler {
             &mut self.piece,
             &mut self.tally,
         );
-        client.edge = input.edge;
+        client.readiness = input.readiness;
         client.first = input.stream.first;
         pumped
     }

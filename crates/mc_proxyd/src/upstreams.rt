@@ -9,7 +9,7 @@ use crate::options::PROGRAM;
 use crate::turns::{ConnectTurn, Stage, turn_by};
 use crate::waits::Waits;
 use mc_admin::LinkFigures;
-use mc_net::{Edge, Input, keep_alive_by, reset, spelled_address};
+use mc_net::{Input, Readiness, keep_alive_by, reset, spelled_address};
 use mc_program::earlier;
 use mc_proxy::Proxy;
 use mc_proxy_pump::{Pumped, pump_link};
@@ -51,7 +51,7 @@ pub struct Upstream {
     failures: u32,
     /// Whether the first connection was established, or the first try failed; true too if nobody waits for that.
     pub tried: bool,
-    edge: Edge,
+    readiness: Readiness,
     /// Whether its socket may be ready: only if it is up.
     pub stirred: bool,
     notices: Notices,
@@ -80,7 +80,7 @@ impl Upstream {
             next: 0,
             failures: 0,
             tried: false,
-            edge: Edge::new(),
+            readiness: Readiness::new(),
             stirred: false,
             notices: Notices::new(Notice::Back),
             waits: Waits::new(),
@@ -252,14 +252,14 @@ impl Upstream {
         // A server whose commands may be delayed is used all the same.
         let _ = stream.set_nodelay(true);
         keep_alive_by(&stream, LINK_KEEPALIVE);
-        self.edge = Edge::new();
+        self.readiness = Readiness::new();
         self.state = State::Connecting(stream);
         Ok(())
     }
 
     /// Records an event. For a connection that was begun it says whether it is established, or has failed.
     pub fn note(&mut self, event: &Event, proxy: &mut Proxy, server: usize) {
-        self.edge.note(event);
+        self.readiness.note(event);
         match &self.state {
             State::Connecting(stream) => match arrival(stream, event) {
                 Ok(false) => {}
@@ -309,7 +309,7 @@ impl Upstream {
         };
         let mut input = Input {
             stream,
-            edge: self.edge,
+            readiness: self.readiness,
         };
         let mut output = stream;
         let before = proxy.waiting(server);
@@ -323,7 +323,7 @@ impl Upstream {
             woken,
             &mut tally,
         );
-        self.edge = input.edge;
+        self.readiness = input.readiness;
         self.stirred = pumped == Pumped::Again;
         let fewer = before.saturating_sub(proxy.waiting(server));
         if proxy.is_up(server) {

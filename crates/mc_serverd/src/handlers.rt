@@ -166,7 +166,7 @@ fn pump_client<S: Store + Drop>(
             },
             failed: false,
         },
-        edge: client.edge,
+        readiness: client.readiness,
     };
     let mut output = Sent {
         stream: &client.stream,
@@ -182,7 +182,7 @@ fn pump_client<S: Store + Drop>(
         moment,
         watch,
     );
-    client.edge = input.edge;
+    client.readiness = input.readiness;
     client.first = input.stream.stream.first;
     (pumped, input.stream.failed || output.failed)
 }
