@@ -2,7 +2,7 @@
 use Rattle.std.specs.Prelude.{ℕ, zero, suc, ◌+◌, ◌-◌, ◌%◌, ◌^◌, Bool, true, false, List, [], ◌∷◌, Option, Some, None, codes}
 use Rattle.slab.specs.Slab.{Slab, get}
 use Rattle.mc_admin.specs.declared.conns.Conn.{Conn}
-use Rattle.mc_net.specs.declared.clients.Seat.{Seat}
+use Rattle.mc_net.specs.declared.clients.ClientSlot.{ClientSlot}
 use Rattle.mc_net.specs.declared.conns.Known.{Known}
 use Rattle.mc_net.specs.declared.conns.Owed.{Owed}
 use Rattle.mc_net.specs.declared.conns.Owed.TheVariants.{Answers, Replies}
@@ -13,9 +13,9 @@ count_after count before after = (count + (after + (2 ^ 64 - before)) % 2 ^ 64) 
 
 -- what is known of a client at a place: for how many seconds it was quiet, since when it is connected, how much was read and written
 module _ {K : Type 0} where
-  abbrev pub known_of : ℕ → ℕ → Bool → Seat K → Known
-  known_of moment place owed seat =
-      record { place = place; is_owed = owed; quiet = moment - seat.used; age = moment - seat.since; read = seat.read; written = seat.written }
+  abbrev pub known_of : ℕ → ℕ → Bool → ClientSlot K → Known
+  known_of moment place owed slot =
+      record { place = place; is_owed = owed; quiet = moment - slot.used; age = moment - slot.since; read = slot.read; written = slot.written }
 
 -- what is listed of a client beside its addresses and its state
 pub record Shown : Type 0 where
@@ -46,15 +46,15 @@ state_of false owed = codes "conn_waiting"
 
 module _ {K : Type 0} where
   -- the client of a place, if there is one, before others
-  abbrev pub shown_before : ℕ → ℕ → Option (Seat K) → List Shown → List Shown
-  shown_before moment place (Some seat) rest = shown_by (known_of moment place false seat) ∷ rest
+  abbrev pub shown_before : ℕ → ℕ → Option (ClientSlot K) → List Shown → List Shown
+  shown_before moment place (Some slot) rest = shown_by (known_of moment place false slot) ∷ rest
   shown_before moment place None rest = rest
 
   -- the clients of a number of places from one on, in their order
-  abbrev pub all_shown : Slab (Seat K) → ℕ → ℕ → ℕ → List Shown
-  all_shown seats moment place zero = []
-  all_shown seats moment place (suc count) =
-      shown_before moment place (get seats place) (all_shown seats moment (place + 1) count)
+  abbrev pub all_shown : Slab (ClientSlot K) → ℕ → ℕ → ℕ → List Shown
+  all_shown slots moment place zero = []
+  all_shown slots moment place (suc count) =
+      shown_before moment place (get slots place) (all_shown slots moment (place + 1) count)
 
 -- the place of the first, if there is one
 abbrev pub place_of : List Shown → Option ℕ

@@ -23,7 +23,7 @@ use std::mem;
 
 /// A client, and what is known of its rounds.
 #[derive(Drop)]
-struct Seat<K> {
+struct ClientSlot<K> {
     client: Client<K>,
     /// Whether its first bytes are known not to be a stranger's.
     known: bool,
@@ -41,7 +41,7 @@ struct Seat<K> {
     written: u64,
 }
 
-impl<K: Drop> Seat<K> {
+impl<K: Drop> ClientSlot<K> {
     /// Records its traffic, from that of all clients before and after its turn.
     #[inline(always)]
     fn pass(&mut self, before: Tally, after: Tally)
@@ -74,7 +74,7 @@ impl<K: Drop> Seat<K> {
 /// The clients of a host. The token of a client's socket is its key.
 #[derive(Drop)]
 pub struct Clients<K: Drop> {
-    seats: Slab<Seat<K>>,
+    slots: Slab<ClientSlot<K>>,
     /// The most clients.
     most: usize,
     /// The keys of the clients that go on in the next round, even without an event.
@@ -104,7 +104,7 @@ impl<K: Default + Drop> Clients<K> {
         Ok(Clients {
             queue: Vec::with_capacity(alloc, most)?,
             going_on: Vec::with_capacity(alloc, most)?,
-            seats: Slab::with_capacity(alloc, most)?,
+            slots: Slab::with_capacity(alloc, most)?,
             most,
             busy: false,
             idle,
@@ -120,19 +120,19 @@ impl<K: Default + Drop> Clients<K> {
 
     /// Returns how many there are.
     pub fn len(&self) -> usize {
-        self.seats.len()
+        self.slots.len()
     }
 
     /// Returns whether there are none.
     pub fn is_empty(&self) -> bool {
-        self.seats.is_empty()
+        self.slots.is_empty()
     }
 
     /// Returns the report of what was done for them: in `uptime` seconds, with `accepted` accepted clients, and with this tally.
     pub fn report(&self, uptime: u64, accepted: u64, tally: Tally) -> Report {
         Report {
             uptime,
-            connections: self.seats.len(),
+            connections: self.slots.len(),
             accepted,
             refused: self.refused,
             tally,
@@ -156,12 +156,12 @@ impl<K: Default + Drop> Clients<K> {
 
     /// Returns the client of a key.
     pub fn get(&self, key: usize) -> Option<&Client<K>> {
-        self.seats.get(key).map(|seat| &seat.client)
+        self.slots.get(key).map(|slot| &slot.client)
     }
 
     /// Returns the client of a key, mutably.
     pub fn get_mut(&mut self, key: usize) -> Option<&mut Client<K>> {
-        self.seats.get_mut(key).map(|seat| &mut seat.client)
+        self.slots.get_mut(key).map(|slot| &mut slot.client)
     }
 
     /// Lists clients from a place on, at most [`LIST_LEN`], at a moment. A client with pending answers is listed as waiting for them.
@@ -175,13 +175,13 @@ impl<K: Default + Drop> Clients<K> {
         owed: Owed,
     ) -> Result<Listed, AllocError>
         ensures conns { IfOk result (λ listed. map shown_of listed.conns.items
-            ≡ take LIST_LEN (all_shown self.now.seats moment from (self.now.most - from))) }
+            ≡ take LIST_LEN (all_shown self.now.slots moment from (self.now.most - from))) }
         ensures next { IfOk result (λ listed. listed.next
-            ≡ place_of (drop LIST_LEN (all_shown self.now.seats moment from (self.now.most - from)))) }
+            ≡ place_of (drop LIST_LEN (all_shown self.now.slots moment from (self.now.most - from)))) }
     {
         let mut conns = Vec::with_capacity(alloc, LIST_LEN)?;
         for place in from..self.most {
-            let Some(seat) = self.seats.get(place) else {
+            let Some(slot) = self.slots.get(place) else {
                 continue;
             };
             if conns.len() == LIST_LEN {
@@ -190,8 +190,8 @@ impl<K: Default + Drop> Clients<K> {
                     next: Some(place),
                 });
             }
-            let known = seat.known(place, handler.owes(seat.client.number), moment);
-            conns.push(conn_of(alloc, &seat.client.stream, known, owed)?)?;
+            let known = slot.known(place, handler.owes(slot.client.number), moment);
+            conns.push(conn_of(alloc, &slot.client.stream, known, owed)?)?;
         }
         Ok(Listed { conns, next: None })
     }
@@ -219,7 +219,7 @@ impl<K: Default + Drop> Clients<K> {
         registry: &Registry,
         moment: u64,
     ) -> bool {
-        let key = self.seats.vacant_key();
+        let key = self.slots.vacant_key();
         let Some(number) = handler.admit(key) else {
             return false;
         };
@@ -227,7 +227,7 @@ impl<K: Default + Drop> Clients<K> {
         // A client whose answers may be delayed is served all the same.
         let _ = stream.set_nodelay(true);
         let registered = registry.register(&mut stream, Token(key), both);
-        let seat = Seat {
+        let slot = ClientSlot {
             client: Client {
                 stream,
                 number,
@@ -248,7 +248,7 @@ impl<K: Default + Drop> Clients<K> {
             handler.end(number);
             return false;
         }
-        if self.seats.insert(seat).is_err() {
+        if self.slots.insert(slot).is_err() {
             handler.note_refused();
             handler.end(number);
             return false;
@@ -261,9 +261,9 @@ impl<K: Default + Drop> Clients<K> {
         requires { moment < 2 ^ 63 }
     {
         let Token(key) = event.token();
-        if let Some(seat) = self.seats.get_mut(key) {
-            seat.client.readiness.note(event);
-            seat.used = moment;
+        if let Some(slot) = self.slots.get_mut(key) {
+            slot.client.readiness.note(event);
+            slot.used = moment;
             self.serve(handler, key, moment);
         }
     }
@@ -277,8 +277,8 @@ impl<K: Default + Drop> Clients<K> {
             let Some(key) = self.going_on.get(index).copied() else {
                 break;
             };
-            if let Some(seat) = self.seats.get_mut(key) {
-                seat.queued = false;
+            if let Some(slot) = self.slots.get_mut(key) {
+                slot.queued = false;
                 self.serve(handler, key, moment);
             }
         }
@@ -299,13 +299,13 @@ impl<K: Default + Drop> Clients<K> {
     pub fn serve<H: Handler<K>>(&mut self, handler: &mut H, key: usize, moment: u64)
         requires { moment < 2 ^ 63 }
     {
-        let Some(seat) = self.seats.get_mut(key) else {
+        let Some(slot) = self.slots.get_mut(key) else {
             return;
         };
-        if !seat.known {
-            match opening(&seat.client.stream, seat.client.readiness) {
+        if !slot.known {
+            match opening(&slot.client.stream, slot.client.readiness) {
                 Opening::Unsettled => return,
-                Opening::Text => seat.known = true,
+                Opening::Text => slot.known = true,
                 Opening::Strange(stranger) => {
                     self.turn_away(handler, key, stranger);
                     return;
@@ -313,20 +313,20 @@ impl<K: Default + Drop> Clients<K> {
             }
         }
         self.busy = true;
-        seat.busy = true;
+        slot.busy = true;
         let before = handler.tally();
-        let step = handler.serve(&mut seat.client, moment);
-        seat.pass(before, handler.tally());
+        let step = handler.serve(&mut slot.client, moment);
+        slot.pass(before, handler.tally());
         match step {
             AfterPump::GoOn => {
-                let was_queued = mem::replace(&mut seat.queued, true);
+                let was_queued = mem::replace(&mut slot.queued, true);
                 if !was_queued && self.queue.push(key).is_err() {
                     handler.note_refused();
                     self.close(handler, key);
                 }
             }
-            AfterPump::Wait => handler.give_back(seat.client.number, KEPT_ROOM),
-            AfterPump::Close => match seat.client.first.opening() {
+            AfterPump::Wait => handler.give_back(slot.client.number, KEPT_ROOM),
+            AfterPump::Close => match slot.client.first.opening() {
                 Opening::Strange(stranger) => self.turn_away(handler, key, stranger),
                 _ => self.close(handler, key),
             },
@@ -336,9 +336,9 @@ impl<K: Default + Drop> Clients<K> {
     /// Closes a client that is a stranger, and notes it for the next line.
     fn turn_away<H: Handler<K>>(&mut self, handler: &mut H, key: usize, stranger: Stranger) {
         let address = self
-            .seats
+            .slots
             .get(key)
-            .and_then(|seat| seat.client.stream.peer_addr().ok());
+            .and_then(|slot| slot.client.stream.peer_addr().ok());
         self.refused = self.refused.saturating_add(1);
         self.turned_away.note(Refusal { stranger, address });
         self.close(handler, key);
@@ -382,19 +382,19 @@ impl<K: Default + Drop> Clients<K> {
 
     /// Sweeps the client of a key: frees its memory, or closes it.
     fn rest_one<H: Handler<K>>(&mut self, handler: &mut H, key: usize, moment: u64) {
-        let Some(seat) = self.seats.get_mut(key) else {
+        let Some(slot) = self.slots.get_mut(key) else {
             return;
         };
-        let number = seat.client.number;
-        if mem::replace(&mut seat.busy, false) {
+        let number = slot.client.number;
+        if mem::replace(&mut slot.busy, false) {
             self.busy = true;
         } else {
             handler.give_back(number, 0);
         }
         if handler.owes(number) {
-            seat.used = moment;
+            slot.used = moment;
         }
-        let used = seat.used;
+        let used = slot.used;
         if self.is_too_idle(used, moment) {
             self.close(handler, key);
         } else {
@@ -418,8 +418,8 @@ impl<K: Default + Drop> Clients<K> {
 
     /// Ends the client's session with the handler, and closes its socket.
     fn close<H: Handler<K>>(&mut self, handler: &mut H, key: usize) {
-        if let Some(seat) = self.seats.try_remove(key) {
-            handler.end(seat.client.number);
+        if let Some(slot) = self.slots.try_remove(key) {
+            handler.end(slot.client.number);
         }
     }
 }

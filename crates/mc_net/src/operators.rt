@@ -5,7 +5,7 @@ ghost use Rattle.mc_net.specs.Listings.{first_listing, listed_by, next_listing};
 use crate::acceptors::{Acceptor, Backlog};
 use crate::binding::bind;
 use crate::budgets::Budget;
-use crate::seats::{QUIET, Seat};
+use crate::operator_slots::{OperatorSlot, QUIET};
 use crate::steps::AfterPump;
 use mc_admin::{REQUEST_LIMIT, Sheet, host_of};
 use mc_program::{AdminTerms, ServeError, earlier};
@@ -36,7 +36,7 @@ pub struct Operators {
     listen: Vec<u8>,
     /// Another name by which a request of HTTP may call the program; empty for none.
     name: Vec<u8>,
-    seats: Slab<Seat>,
+    slots: Slab<OperatorSlot>,
     /// The buffer of all reads, made once.
     piece: Vec<u8>,
     budget: Budget,
@@ -67,7 +67,7 @@ impl Operators {
             listen: Vec::from_slice(alloc, host_of(place.as_bytes()))?,
             name: Vec::from_slice(alloc, admin.name.as_bytes())?,
             piece: Vec::from_elem(alloc, 0, REQUEST_LIMIT)?,
-            seats: Slab::with_capacity(alloc, MAX_OPERATORS)?,
+            slots: Slab::with_capacity(alloc, MAX_OPERATORS)?,
             acceptor: acceptor_at(rt, admin)?,
             registered: admin.listen.is_none(),
             budget: Budget::new(),
@@ -108,8 +108,8 @@ impl Operators {
     #[inline(never)]
     fn prepare(&mut self, registry: &Registry, second: u64) {
         for key in 0..MAX_OPERATORS {
-            if let Some(seat) = self.seats.get_mut(key) {
-                seat.settle(second);
+            if let Some(slot) = self.slots.get_mut(key) {
+                slot.settle(second);
             }
         }
         if second != self.second {
@@ -139,9 +139,9 @@ impl Operators {
         self.awake = self.stirred || self.backlog() != Backlog::Nobody;
         let next = self.awake.then_some(self.second.saturating_add(1));
         self.due = self
-            .seats
+            .slots
             .iter()
-            .fold(next, |due, (_, seat)| earlier(due, Some(seat.due())));
+            .fold(next, |due, (_, slot)| earlier(due, Some(slot.due())));
     }
 
     /// Makes the poll report the listener, if it does not yet.
@@ -171,11 +171,11 @@ impl Operators {
 
     /// Makes a place if all are taken: closes the connection that has been quiet longest, if that is for more than [`QUIET`] seconds.
     fn make_room(&mut self) {
-        if self.seats.len() < MAX_OPERATORS {
+        if self.slots.len() < MAX_OPERATORS {
             return;
         }
-        let longest = self.seats.iter().fold(None, |longest, (key, seat)| {
-            let used = seat.used();
+        let longest = self.slots.iter().fold(None, |longest, (key, slot)| {
+            let used = slot.used();
             match longest {
                 Some((_, least)) if least <= used => longest,
                 _ => Some((key, used)),
@@ -184,14 +184,14 @@ impl Operators {
         if let Some((key, used)) = longest
             && self.second.saturating_sub(used) > QUIET
         {
-            let _ = self.seats.try_remove(key);
+            let _ = self.slots.try_remove(key);
         }
     }
 
     /// Takes a connection in. If there is no place or no memory for it, it is closed at once.
     fn admit(&mut self, registry: &Registry, mut stream: TcpStream) {
         self.make_room();
-        let key = self.seats.vacant_key();
+        let key = self.slots.vacant_key();
         if key >= MAX_OPERATORS {
             return;
         }
@@ -202,9 +202,9 @@ impl Operators {
         {
             return;
         }
-        if let Ok(seat) = Seat::new(self.alloc, stream, self.second) {
+        if let Ok(slot) = OperatorSlot::new(self.alloc, stream, self.second) {
             // Without memory for it, the connection is closed.
-            let _ = self.seats.insert(seat);
+            let _ = self.slots.insert(slot);
         }
     }
 
@@ -221,8 +221,8 @@ impl Operators {
         let Some(key) = number.checked_sub(FIRST) else {
             return;
         };
-        if let Some(seat) = self.seats.get_mut(key) {
-            seat.note(event);
+        if let Some(slot) = self.slots.get_mut(key) {
+            slot.note(event);
             self.stirred = true;
         }
     }
@@ -235,8 +235,8 @@ impl Operators {
     /// Returns the place from which clients must be listed for this round, if a connection has asked which are connected: one connection a
     /// round, each in turn. The next list that `serve` gets is for it alone.
     pub fn listing(&mut self) -> Option<usize>
-        ensures from { result ≡ option_map (λ found. found.1) (next_listing self.old.seats self.old.listed) }
-        ensures rest { self.new ≡ record self.old { listed = listed_by (next_listing self.old.seats self.old.listed) self.old.listed } }
+        ensures from { result ≡ option_map (λ found. found.1) (next_listing self.old.slots self.old.listed) }
+        ensures rest { self.new ≡ record self.old { listed = listed_by (next_listing self.old.slots self.old.listed) self.old.listed } }
     {
         let after = self.listed.saturating_add(1);
         let (key, from) = match self.listing_in(after, MAX_OPERATORS) {
@@ -251,13 +251,13 @@ impl Operators {
     /// place on.
     #[tactic(auto, using(crate::proofs::ListingLemmas::first_next))]
     fn listing_in(&self, first: usize, end: usize) -> Option<(usize, usize)>
-        ensures { result ≡ first_listing self.now.seats first (end - first) }
+        ensures { result ≡ first_listing self.now.slots first (end - first) }
     {
         for key in first..end {
-            let Some(seat) = self.seats.get(key) else {
+            let Some(slot) = self.slots.get(key) else {
                 continue;
             };
-            if let Some(from) = seat.listing() {
+            if let Some(from) = slot.listing() {
                 return Some((key, from));
             }
         }
@@ -277,10 +277,10 @@ impl Operators {
 
     /// Serves the connection of a key, if something may be done for it.
     fn serve_one(&mut self, sheet: &Sheet<'_>, key: usize) {
-        let Some(seat) = self.seats.get_mut(key) else {
+        let Some(slot) = self.slots.get_mut(key) else {
             return;
         };
-        if !seat.stirred {
+        if !slot.stirred {
             return;
         }
         let (listen, name) = (self.listen.as_slice(), self.name.as_slice());
@@ -288,7 +288,7 @@ impl Operators {
         if key != self.listed {
             own.part = None;
         }
-        let step = seat.serve(
+        let step = slot.serve(
             listen,
             name,
             &own,
@@ -298,9 +298,9 @@ impl Operators {
         );
         match step {
             AfterPump::GoOn => self.stirred = true,
-            AfterPump::Wait => seat.stirred = false,
+            AfterPump::Wait => slot.stirred = false,
             AfterPump::Close => {
-                let _ = self.seats.try_remove(key);
+                let _ = self.slots.try_remove(key);
             }
         }
     }
@@ -309,8 +309,8 @@ impl Operators {
     pub fn turn_away(&mut self) {
         self.stirred = false;
         for key in 0..MAX_OPERATORS {
-            if self.seats.get(key).is_some_and(|seat| seat.stirred) {
-                let _ = self.seats.try_remove(key);
+            if self.slots.get(key).is_some_and(|slot| slot.stirred) {
+                let _ = self.slots.try_remove(key);
             }
         }
         self.settle();
@@ -335,11 +335,11 @@ impl Operators {
     fn rest(&mut self) {
         for key in 0..MAX_OPERATORS {
             if self
-                .seats
+                .slots
                 .get(key)
-                .is_some_and(|seat| seat.due() <= self.second)
+                .is_some_and(|slot| slot.due() <= self.second)
             {
-                let _ = self.seats.try_remove(key);
+                let _ = self.slots.try_remove(key);
             }
         }
     }

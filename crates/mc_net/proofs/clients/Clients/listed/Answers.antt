@@ -8,13 +8,13 @@ use Rattle.mc_net.proofs.clients.Clients.listed.Goals as goal
 pub returns-then-len-eq-LIST_LEN-clause-conns : goal.returns-then-len-eq-LIST_LEN-clause-conns
 returns-then-len-eq-LIST_LEN-clause-conns g c =
     let full : length c.loop-place.conns.items ≡ LIST_LEN = search in
-    let found : get c.args.self.now.seats c.loop-place.place ≡ Some c.in-Some.seat.now = search (rules) in
-    (full_at c.args.self.now.seats c.args.moment c.args.from c.loop-place.place c.args.self.now.most c.in-Some.seat.now c.loop-place.conns.items
+    let found : get c.args.self.now.slots c.loop-place.place ≡ Some c.in-Some.slot.now = search (rules) in
+    (full_at c.args.self.now.slots c.args.moment c.args.from c.loop-place.place c.args.self.now.most c.in-Some.slot.now c.loop-place.conns.items
     c.loop-place-test.true found full c.loop-place.invariant.shown).0
 
 pub returns-then-len-eq-LIST_LEN-clause-next : goal.returns-then-len-eq-LIST_LEN-clause-next
 returns-then-len-eq-LIST_LEN-clause-next g c =
     let full : length c.loop-place.conns.items ≡ LIST_LEN = search in
-    let found : get c.args.self.now.seats c.loop-place.place ≡ Some c.in-Some.seat.now = search (rules) in
-    (full_at c.args.self.now.seats c.args.moment c.args.from c.loop-place.place c.args.self.now.most c.in-Some.seat.now c.loop-place.conns.items
+    let found : get c.args.self.now.slots c.loop-place.place ≡ Some c.in-Some.slot.now = search (rules) in
+    (full_at c.args.self.now.slots c.args.moment c.args.from c.loop-place.place c.args.self.now.most c.in-Some.slot.now c.loop-place.conns.items
     c.loop-place-test.true found full c.loop-place.invariant.shown).1

@@ -28,7 +28,7 @@ const MAX_TURNS: u32 = 4;
 
 /// The connection of an operator.
 #[derive(Drop)]
-pub struct Seat {
+pub struct OperatorSlot {
     stream: TcpStream,
     /// Its own address, as text.
     own: String,
@@ -46,11 +46,11 @@ pub struct Seat {
     fresh: bool,
 }
 
-impl Seat {
+impl OperatorSlot {
     /// Makes a connection to which no byte has arrived, by its socket.
-    pub fn new(alloc: Global, stream: TcpStream, second: u64) -> Result<Seat, AdminError> {
+    pub fn new(alloc: Global, stream: TcpStream, second: u64) -> Result<OperatorSlot, AdminError> {
         let own = own_address(alloc, &stream)?;
-        Ok(Seat {
+        Ok(OperatorSlot {
             stream,
             own,
             talk: Talk::new(alloc)?,
