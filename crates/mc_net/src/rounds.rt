@@ -26,7 +26,7 @@ const PATIENCE: u64 = 1000;
 const MOST_PATIENCE: u64 = 3_600_000;
 
 /// What a program on a runtime does in the rounds of its poll, in this order, by a clock.
-pub trait Rounds<R, C> {
+pub trait LoopHandler<R, C> {
     /// Begins to serve: called once, before the first round, when all that the rounds need is reserved, and the listener is registered.
     fn ready(&mut self, _rt: &R) {}
 
@@ -63,7 +63,7 @@ pub trait Rounds<R, C> {
 
 /// Runs rounds until the acceptor is shut and no client is served any more; with 0 for ever, or until the host says why it stops
 /// serving.
-pub fn serve_rounds<R: Net + Wait, C, H: Rounds<R, C>>(
+pub fn serve_rounds<R: Net + Wait, C, H: LoopHandler<R, C>>(
     rt: &R,
     alloc: Global,
     listener: TcpListener,
@@ -80,7 +80,7 @@ pub fn serve_rounds<R: Net + Wait, C, H: Rounds<R, C>>(
 }
 
 /// Runs rounds over what was made for them.
-fn go_round<R: Net + Wait, C, H: Rounds<R, C>>(
+fn go_round<R: Net + Wait, C, H: LoopHandler<R, C>>(
     rt: &R,
     poll: &mut Poll,
     events: &mut Events,
@@ -108,7 +108,7 @@ fn go_round<R: Net + Wait, C, H: Rounds<R, C>>(
 
 /// Handles the events of a round.
 #[inline(always)]
-fn wake_all<R, C, H: Rounds<R, C>>(events: &Events, acceptor: &mut Acceptor, host: &mut H) {
+fn wake_all<R, C, H: LoopHandler<R, C>>(events: &Events, acceptor: &mut Acceptor, host: &mut H) {
     for event in events.iter() {
         if event.token() == LISTENER {
             acceptor.note();
@@ -119,7 +119,7 @@ fn wake_all<R, C, H: Rounds<R, C>>(events: &Events, acceptor: &mut Acceptor, hos
 }
 
 /// Lets clients in until none waits, or as many as a round lets in.
-fn let_in<R, C, H: Rounds<R, C>>(
+fn let_in<R, C, H: LoopHandler<R, C>>(
     rt: &R,
     registry: &Registry,
     acceptor: &mut Acceptor,

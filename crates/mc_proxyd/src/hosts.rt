@@ -13,7 +13,7 @@ use crate::rooms::other_files;
 use crate::settings::ProxySettings;
 use crate::woken::Woken;
 use mc_net::{
-    Backlog, Clients, Listed, Operators, Owed, Report, Room, Rounds, Stopwatch, patience,
+    Backlog, Clients, Listed, LoopHandler, Operators, Owed, Report, Room, Stopwatch, patience,
     process_number, resident_memory, wall_clock,
 };
 use mc_program::{EprintSeldom, Pace, ServeError, earlier};
@@ -318,7 +318,8 @@ impl<'a> ProxyLoop<'a> {
     }
 }
 
-impl<'a, R: Net + Clock + Files + Print + EprintSeldom> Rounds<R, Stopwatch> for ProxyLoop<'a> {
+impl<'a, R: Net + Clock + Files + Print + EprintSeldom> LoopHandler<R, Stopwatch>
+    for ProxyLoop<'a> {
     fn ready(&mut self, rt: &R) {
         // Best effort: a failed write to standard output must not stop serving.
         let _ = println!(rt; "listening {}", self.listen);

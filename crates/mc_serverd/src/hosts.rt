@@ -8,7 +8,9 @@ use crate::handlers::ServerHandler;
 use crate::items::advice_of;
 use crate::options::PROGRAM;
 use crate::settings::Settings;
-use mc_net::{Backlog, Clients, Handler, Listed, Operators, Owed, Report, Room, Rounds, patience};
+use mc_net::{
+    Backlog, Clients, Handler, Listed, LoopHandler, Operators, Owed, Report, Room, patience,
+};
 use mc_program::{EprintSeldom, OWN_FILES, Pace, ServeError, earlier};
 use mc_server::{MAX_CONNECTIONS, Server};
 use mc_store::Store;
@@ -206,7 +208,7 @@ impl<'a, S: Store + Drop> ServerLoop<'a, S> {
     }
 }
 
-impl<R: Print + EprintSeldom + Files, C: Seconds, S: Store + Drop> Rounds<R, C>
+impl<R: Print + EprintSeldom + Files, C: Seconds, S: Store + Drop> LoopHandler<R, C>
     for ServerLoop<'_, S> {
     fn ready(&mut self, rt: &R) {
         // Best effort: a failed write to standard output must not stop serving.
