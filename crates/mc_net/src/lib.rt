@@ -20,7 +20,7 @@
 //! [`serve_rounds`] is the loop of a server and of a proxy. It waits for the sockets, records who connects to the listener, lets in as many
 //! clients as a round does, and leaves the rest to an implementation of [`LoopHandler`]. [`Clients`] are the [`Client`]s that were let in, with
 //! the queue of those that go on without an event, and with how long each was idle. A [`Handler`] serves them: it admits a client, carries
-//! its bytes and returns what is done with it next. [`patience`] returns how long a round waits, and a [`Report`] says what was done. A
+//! its bytes and returns what is done with it next. [`poll_timeout`] returns how long a round waits, and a [`Report`] says what was done. A
 //! [`Room`] is how many clients the open files of a program allow, and a [`Listed`] which clients are connected, at most [`LIST_LEN`] at a
 //! time.
 //!
@@ -115,7 +115,7 @@ pub use processes::{process_number, resident_memory, wall_clock};
 pub use reports::Report;
 pub use resets::reset;
 pub use rooms::Room;
-pub use rounds::{LoopHandler, patience, serve_rounds};
+pub use rounds::{LoopHandler, poll_timeout, serve_rounds};
 pub use steps::{AfterPump, step_after};
 pub use stopwatches::Stopwatch;
 pub use stranger_laws::{

@@ -20,10 +20,10 @@ const MAX_EVENTS: usize = 1024;
 const MAX_ACCEPTS: u32 = 64;
 
 /// How long a round waits at most if something must soon be done without an event, in milliseconds.
-const PATIENCE: u64 = 1000;
+const SHORT_TIMEOUT: u64 = 1000;
 
 /// How long a round waits at most if something must be done without an event, in milliseconds.
-const MOST_PATIENCE: u64 = 3_600_000;
+const MAX_TIMEOUT: u64 = 3_600_000;
 
 /// What a program on a runtime does in the rounds of its poll, in this order, by a clock.
 pub trait LoopHandler<R, C> {
@@ -89,8 +89,8 @@ fn go_round<R: Net + Wait, C, H: LoopHandler<R, C>>(
     host: &mut H,
 ) -> Result<(), ServeError> {
     for _ in rt.forever() {
-        let patience = host.before(rt, poll.registry(), acceptor.backlog());
-        poll.poll(events, patience)?;
+        let timeout = host.before(rt, poll.registry(), acceptor.backlog());
+        poll.poll(events, timeout)?;
         host.begin(rt, clock);
         wake_all::<R, C, H>(events, acceptor, host);
         host.carry_on(poll.registry());
@@ -138,10 +138,10 @@ fn let_in<R, C, H: LoopHandler<R, C>>(
 
 /// Returns how long a round waits: not at all if a client goes on, and for ever if nothing is due. Otherwise it waits until something is
 /// due, in `left` milliseconds, but a second at most if something must soon be done without an event.
-pub fn patience(goes_on: bool, soon: bool, left: Option<u64>) -> Option<Duration> {
+pub fn poll_timeout(goes_on: bool, soon: bool, left: Option<u64>) -> Option<Duration> {
     if goes_on {
         return Some(Duration::from_millis(0));
     }
-    let left = earlier(soon.then_some(PATIENCE), left)?;
-    Some(Duration::from_millis(left.min(MOST_PATIENCE)))
+    let left = earlier(soon.then_some(SHORT_TIMEOUT), left)?;
+    Some(Duration::from_millis(left.min(MAX_TIMEOUT)))
 }

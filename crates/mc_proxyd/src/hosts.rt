@@ -13,7 +13,7 @@ use crate::rooms::other_files;
 use crate::settings::ProxySettings;
 use crate::woken::Woken;
 use mc_net::{
-    Backlog, Clients, Listed, LoopHandler, Operators, Owed, Report, Room, Stopwatch, patience,
+    Backlog, Clients, Listed, LoopHandler, Operators, Owed, Report, Room, Stopwatch, poll_timeout,
     process_number, resident_memory, wall_clock,
 };
 use mc_program::{EprintSeldom, Pace, ServeError, earlier};
@@ -337,7 +337,7 @@ impl<'a, R: Net + Clock + Files + Print + EprintSeldom> LoopHandler<R, Stopwatch
             self.room.tell(rt, PROGRAM, self.second);
         }
         let soon = self.clients.is_busy() || backlog.is_refused() || self.joining.is_due();
-        patience(self.goes_on(backlog), soon, self.left())
+        poll_timeout(self.goes_on(backlog), soon, self.left())
     }
 
     fn begin(&mut self, rt: &R, clock: &mut Stopwatch) {

@@ -9,7 +9,7 @@ use crate::items::advice_of;
 use crate::options::PROGRAM;
 use crate::settings::Settings;
 use mc_net::{
-    Backlog, Clients, Handler, Listed, LoopHandler, Operators, Owed, Report, Room, patience,
+    Backlog, Clients, Handler, Listed, LoopHandler, Operators, Owed, Report, Room, poll_timeout,
 };
 use mc_program::{EprintSeldom, OWN_FILES, Pace, ServeError, earlier};
 use mc_server::{MAX_CONNECTIONS, Server};
@@ -228,7 +228,7 @@ impl<R: Print + EprintSeldom + Files, C: Seconds, S: Store + Drop> LoopHandler<R
         let due = earlier(self.clients.due(), self.pace.due());
         let due = earlier(due, self.operators.due());
         let left = due.map(|due| due.saturating_sub(self.moment).saturating_mul(1000));
-        patience(goes_on, soon, left)
+        poll_timeout(goes_on, soon, left)
     }
 
     fn begin(&mut self, _rt: &R, clock: &mut C) {
