@@ -372,7 +372,7 @@ impl<K: Default + Drop> Clients<K> {
 
     /// Frees the memory that is reserved for clients without an event since the last sweep, and closes those that have been idle for too
     /// long.
-    pub fn rest<H: Handler<K>>(&mut self, handler: &mut H, moment: u64) {
+    pub fn sweep<H: Handler<K>>(&mut self, handler: &mut H, moment: u64) {
         self.busy = false;
         self.due = None;
         for key in 0..self.most {

@@ -114,7 +114,7 @@ impl Operators {
         }
         if second != self.second {
             self.second = second;
-            self.rest();
+            self.sweep();
         }
         self.register(registry);
         self.let_in(registry);
@@ -332,7 +332,7 @@ impl Operators {
     }
 
     /// Closes the connections that have waited for too long.
-    fn rest(&mut self) {
+    fn sweep(&mut self) {
         for key in 0..MAX_OPERATORS {
             if self
                 .slots

@@ -383,9 +383,9 @@ impl<'a, R: Net + Clock + Files + Print + EprintSeldom> LoopHandler<R, Stopwatch
             return;
         }
         self.rested = self.second;
-        self.clients.rest(&mut self.handler, self.second);
+        self.clients.sweep(&mut self.handler, self.second);
         let is_used = self.clients.is_busy();
-        self.pool.rest(&mut self.handler.proxy, is_used);
+        self.pool.sweep(&mut self.handler.proxy, is_used);
         if self.pace.comes(self.second) {
             self.report(rt, accepted);
         }

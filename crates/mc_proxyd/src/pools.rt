@@ -206,7 +206,7 @@ impl Upstreams {
 
     /// Frees the memory that the links' empty buffers have reserved: all of it or, while the links are used, what exceeds [`KEPT_ROOM`]
     /// bytes. Once a second is enough: only then does a link with many large commands or replies reserve anew.
-    pub fn rest(&self, proxy: &mut Proxy, is_used: bool) {
+    pub fn sweep(&self, proxy: &mut Proxy, is_used: bool) {
         let kept = if is_used { KEPT_ROOM } else { 0 };
         for place in 0..self.upstreams.len() {
             proxy.link_give_back(place, kept);

@@ -264,7 +264,7 @@ impl<R: Print + EprintSeldom + Files, C: Seconds, S: Store + Drop> LoopHandler<R
             return;
         }
         self.rested = self.moment;
-        self.clients.rest(&mut self.handler, self.moment);
+        self.clients.sweep(&mut self.handler, self.moment);
         self.handler.keep_reserve();
         self.advise(rt);
         self.tell_refused(rt);
