@@ -157,14 +157,14 @@ impl<'a> ProxyLoop<'a> {
                 continue;
             }
             if !self.freed.is_empty() {
-                self.let_on();
+                self.resume();
             }
             self.answer();
         }
     }
 
     /// Serves the clients whose requests wait for a link that fell below its mark.
-    fn let_on(&mut self) {
+    fn resume(&mut self) {
         for key in 0..MAX_SESSIONS {
             let freed = self.freed.as_slice();
             if let Some(client) = self.clients.get(key)
