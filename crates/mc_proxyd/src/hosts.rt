@@ -139,9 +139,9 @@ impl<'a> ProxyLoop<'a> {
 
     /// Carries the bytes to servers and from them, and then serves the clients that can go on. Each is served once for all bytes that
     /// arrived together, so that its answers are sent together.
-    fn carry(&mut self) {
+    fn pump_links(&mut self) {
         for _ in 0..MAX_PASSES {
-            let others = self.pool.carry(
+            let others = self.pool.pump_links(
                 &mut self.handler.proxy,
                 &mut self.handler.piece,
                 &mut self.woken,
@@ -359,7 +359,7 @@ impl<'a, R: Net + Clock + Files + Print + EprintSeldom> LoopHandler<R, Stopwatch
 
     /// Loses the upstreams on which a reply is late once all that arrived was taken, and answers the clients whose commands are lost.
     fn carry_on(&mut self, registry: &Registry) {
-        self.carry();
+        self.pump_links();
         self.give_up();
         self.let_in(registry);
     }

@@ -169,7 +169,7 @@ impl Upstreams {
     /// any other session may go on, since an upstream was lost or there was no memory to note one.
     ///
     /// An upstream that fails is dropped and its link is lost: its pending commands are lost, and it is tried again.
-    pub fn carry(
+    pub fn pump_links(
         &mut self,
         proxy: &mut Proxy,
         piece: &mut [u8],
