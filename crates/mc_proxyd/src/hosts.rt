@@ -238,7 +238,7 @@ impl<'a> ProxyLoop<'a> {
         };
         let joined = self.pool.join(&mut self.handler.proxy, server, true);
         if joined.is_ok() {
-            self.pool.keep(rt, registry, self.now);
+            self.pool.reconnect(rt, registry, self.now);
         }
         self.joining.note(joined);
     }
@@ -329,7 +329,7 @@ impl<'a, R: Net + Clock + Files + Print + EprintSeldom> LoopHandler<R, Stopwatch
     fn before(&mut self, rt: &R, registry: &Registry, backlog: Backlog) -> Option<Duration> {
         self.operators.before(registry, self.second);
         self.look(rt);
-        self.pool.keep(rt, registry, self.now);
+        self.pool.reconnect(rt, registry, self.now);
         self.pool.tell(rt, self.second);
         self.joining.tell(rt, self.second);
         self.clients.tell_refused(rt, PROGRAM, backlog, self.second);

@@ -76,12 +76,12 @@ impl Upstreams {
     }
 
     /// Tries the upstreams that are down if it is time for them, and goes on with the tries whose look-ups have ended.
-    pub fn keep<R: Net>(&mut self, rt: &R, registry: &Registry, now: u64) {
+    pub fn reconnect<R: Net>(&mut self, rt: &R, registry: &Registry, now: u64) {
         let mut random = self.random;
         let lookups = &mut self.lookups;
         for (place, upstream) in self.upstreams.iter_mut().enumerate() {
             random = next_random(random);
-            upstream.keep(rt, registry, lookups, token_of(place), now, random >> 32);
+            upstream.reconnect(rt, registry, lookups, token_of(place), now, random >> 32);
         }
         self.random = random;
     }

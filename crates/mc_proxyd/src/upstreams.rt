@@ -128,7 +128,7 @@ impl Upstream {
 
     /// Tries the server if it is down and it is time for that, and goes on with a try that waits for a look-up. It gives up a try that takes
     /// longer than [`CONNECT_MILLIS`]. It blocks on neither. A random number decides when the next try begins if this one fails.
-    pub fn keep<R: Net>(
+    pub fn reconnect<R: Net>(
         &mut self,
         rt: &R,
         registry: &Registry,
