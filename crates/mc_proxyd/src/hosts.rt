@@ -178,7 +178,7 @@ impl<'a> ProxyLoop<'a> {
 
     /// Serves the clients whose commands were answered.
     fn answer(&mut self) {
-        self.woken.gather();
+        self.woken.group();
         for _ in 0..self.woken.len() {
             let Some(key) = self.take_woken() else {
                 break;

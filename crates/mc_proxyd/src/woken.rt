@@ -42,7 +42,7 @@ impl Woken {
     }
 
     /// Sorts the sessions, so that each is taken once.
-    pub fn gather(&mut self) {
+    pub fn group(&mut self) {
         self.brought.sort_unstable_by_key(|one| one.0);
     }
 
