@@ -12,7 +12,7 @@ use crate::openings::{Opening, Stranger};
 use crate::reports::Report;
 use crate::steps::AfterPump;
 use crate::strangers::{Refusal, opening};
-use mc_program::{EprintSeldom, Pace, Said, Seldom, earlier};
+use mc_program::{EprintSeldom, Said, Seldom, Ticker, earlier};
 use mc_stream::Tally;
 use mio::event::Event;
 use mio::net::TcpStream;
@@ -92,7 +92,7 @@ pub struct Clients<K: Drop> {
     /// The strangers that were turned away and are not yet reported.
     turned_away: Seldom<Refusal>,
     /// When the next line may say that no more are accepted, since the system gives no connection.
-    told_refused: Pace,
+    told_refused: Ticker,
 }
 
 /// The seconds between two lines that say that the system gives no connection: this may last for hours.
@@ -111,7 +111,7 @@ impl<K: Default + Drop> Clients<K> {
             due: None,
             refused: 0,
             turned_away: Seldom::new(),
-            told_refused: Pace {
+            told_refused: Ticker {
                 every: REFUSED_EVERY,
                 next: 0,
             },

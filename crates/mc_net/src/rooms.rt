@@ -1,7 +1,7 @@
 //! How many clients the open files of a program allow.
 ghost use Rattle.std.specs.Prelude.{◌≡◌, nat_le};
 
-use mc_program::{Pace, open_files, served};
+use mc_program::{Ticker, open_files, served};
 
 /// The seconds between two lines that say that no more clients are accepted.
 const TOLD_EVERY: u64 = 60;
@@ -15,7 +15,7 @@ pub struct Room {
     /// How many of these are left for clients.
     clients: u64,
     /// When the next line may say that these are used up.
-    told: Pace,
+    told: Ticker,
 }
 
 impl Room {
@@ -25,7 +25,7 @@ impl Room {
         Room {
             files,
             clients: served(files, others),
-            told: Pace {
+            told: Ticker {
                 every: TOLD_EVERY,
                 next: 0,
             },

@@ -7,19 +7,19 @@ use std::mem;
 
 /// When something is due that is done once in a number of seconds.
 #[derive(Clone, Copy, Debug)]
-pub struct Pace {
+pub struct Ticker {
     /// The number of seconds; 0 for never.
     pub every: u64,
     /// The second in which it is due.
     pub next: u64,
 }
 
-impl Pace {
-    /// Makes a pace of once in `every` seconds, first that many seconds after a second; 0 for never.
-    pub fn new(every: u64, second: u64) -> Pace
+impl Ticker {
+    /// Makes a ticker of once in `every` seconds, first that many seconds after a second; 0 for never.
+    pub fn new(every: u64, second: u64) -> Ticker
         ensures { result ≡ record { every = every; next = next_of every second } }
     {
-        Pace {
+        Ticker {
             every,
             next: second.saturating_add(every),
         }

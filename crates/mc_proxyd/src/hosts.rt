@@ -16,7 +16,7 @@ use mc_net::{
     Backlog, Clients, Listed, LoopHandler, Operators, Owed, Report, Room, Stopwatch, poll_timeout,
     process_number, resident_memory, wall_clock,
 };
-use mc_program::{EprintSeldom, Pace, ServeError, earlier};
+use mc_program::{EprintSeldom, ServeError, Ticker, earlier};
 use mc_proxy::MAX_SESSIONS;
 use mc_ring::{Ring, SERVER_LIMIT};
 use mio::event::Event;
@@ -56,7 +56,7 @@ pub struct ProxyLoop<'a> {
     second: u64,
     /// The second of the last sweep of the clients.
     rested: u64,
-    pace: Pace,
+    ticker: Ticker,
     room: Room,
     ghost within: { second < 2 ^ 63 },
 }
@@ -105,7 +105,7 @@ impl<'a> ProxyLoop<'a> {
             now: 0,
             second: 0,
             rested: 0,
-            pace: Pace::new(settings.terms.report, 0),
+            ticker: Ticker::new(settings.terms.report, 0),
             room: Room::new(others),
         })
     }
@@ -129,7 +129,7 @@ impl<'a> ProxyLoop<'a> {
 
     /// Returns in how many milliseconds something must be done without an event, at the earliest.
     fn left(&self) -> Option<u64> {
-        let second = earlier(self.clients.due(), self.pace.due());
+        let second = earlier(self.clients.due(), self.ticker.due());
         let second = earlier(second, self.operators.due());
         let millis = second.map(|second| second.saturating_mul(1000));
         let looked = self.listing.as_ref().map(|listing| listing.due());
@@ -386,7 +386,7 @@ impl<'a, R: Net + Clock + Files + Print + EprintSeldom> LoopHandler<R, Stopwatch
         self.clients.sweep(&mut self.handler, self.second);
         let is_used = self.clients.is_busy();
         self.pool.sweep(&mut self.handler.proxy, is_used);
-        if self.pace.comes(self.second) {
+        if self.ticker.comes(self.second) {
             self.report(rt, accepted);
         }
     }

@@ -11,7 +11,7 @@ use crate::settings::Settings;
 use mc_net::{
     Backlog, Clients, Handler, Listed, LoopHandler, Operators, Owed, Report, Room, poll_timeout,
 };
-use mc_program::{EprintSeldom, OWN_FILES, Pace, ServeError, earlier};
+use mc_program::{EprintSeldom, OWN_FILES, ServeError, Ticker, earlier};
 use mc_server::{MAX_CONNECTIONS, Server};
 use mc_store::Store;
 use mio::Registry;
@@ -45,7 +45,7 @@ pub struct ServerLoop<'a, S: Store + Drop> {
     moment: u64,
     /// The moment of the last sweep of idle clients.
     rested: u64,
-    pace: Pace,
+    ticker: Ticker,
     /// How many clients its open files allow beside operators; any number if there are no operators.
     room: Option<Room>,
     ghost within: { moment < 2 ^ 63 },
@@ -106,7 +106,7 @@ impl<'a, S: Store + Drop> ServerLoop<'a, S> {
             start: moment,
             moment,
             rested: moment,
-            pace: Pace::new(service.terms.report, moment),
+            ticker: Ticker::new(service.terms.report, moment),
             room,
         })
     }
@@ -225,7 +225,7 @@ impl<R: Print + EprintSeldom + Files, C: Seconds, S: Store + Drop> LoopHandler<R
             || self.operators.goes_on()
             || (backlog == Backlog::More && !self.is_full());
         let soon = self.clients.is_busy() || backlog.is_refused();
-        let due = earlier(self.clients.due(), self.pace.due());
+        let due = earlier(self.clients.due(), self.ticker.due());
         let due = earlier(due, self.operators.due());
         let left = due.map(|due| due.saturating_sub(self.moment).saturating_mul(1000));
         poll_timeout(goes_on, soon, left)
@@ -268,7 +268,7 @@ impl<R: Print + EprintSeldom + Files, C: Seconds, S: Store + Drop> LoopHandler<R
         self.handler.keep_reserve();
         self.advise(rt);
         self.tell_refused(rt);
-        if self.pace.comes(self.moment) {
+        if self.ticker.comes(self.moment) {
             self.report(rt, accepted);
         }
     }
