@@ -12,7 +12,7 @@ use crate::openings::{Opening, Stranger};
 use crate::reports::Report;
 use crate::steps::AfterPump;
 use crate::strangers::{Refusal, opening};
-use mc_program::{EprintSeldom, Said, Seldom, Ticker, earlier};
+use mc_program::{EprintSeldom, OncePerSecond, Said, Ticker, earlier};
 use mc_stream::Tally;
 use mio::event::Event;
 use mio::net::TcpStream;
@@ -90,7 +90,7 @@ pub struct Clients<K: Drop> {
     /// How many clients were closed as they connected.
     refused: u64,
     /// The strangers that were turned away and are not yet reported.
-    turned_away: Seldom<Refusal>,
+    turned_away: OncePerSecond<Refusal>,
     /// When the next line may say that no more are accepted, since the system gives no connection.
     told_refused: Ticker,
 }
@@ -110,7 +110,7 @@ impl<K: Default + Drop> Clients<K> {
             idle,
             due: None,
             refused: 0,
-            turned_away: Seldom::new(),
+            turned_away: OncePerSecond::new(),
             told_refused: Ticker {
                 every: REFUSED_EVERY,
                 next: 0,

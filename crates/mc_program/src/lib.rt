@@ -15,7 +15,7 @@
 //!
 //! [`open_files`] asks the system how many files and sockets may be open at a time, and [`served`] returns how many connections that leaves.
 //! [`tell_open_files`] prints a line for the operator if these may be too few. A [`Ticker`] says when something is due that is done once in a number
-//! of seconds. A [`Seldom`] limits lines to one a second, and counts those that it suppresses. [`earlier`] is the earlier of two moments, either of
+//! of seconds. An [`OncePerSecond`] limits lines to one a second, and counts those that it suppresses. [`earlier`] is the earlier of two moments, either of
 //! which may be missing. None of these allocates or knows a socket, and only [`tell_open_files`] may block, on standard error.
 #![tactic(auto)]
 
@@ -42,7 +42,7 @@ pub use failures::{Failure, exit_status};
 pub use logs::{EprintSeldom, Form, LogOption, LoggingRuntime, Spelling, form_by, spelling_of};
 pub use operators::is_read;
 pub use options::{accept, flag, idle, listen, log, number, report, size};
-pub use paces::{Said, Seldom, Ticker, earlier};
+pub use paces::{OncePerSecond, Said, Ticker, earlier};
 pub use sizes::size_within;
 pub use sockets::SocketError;
 pub use streams::open_streams;

@@ -54,7 +54,7 @@ impl Ticker {
 /// A line that is printed at most once a second. Lines between two printed ones are suppressed, and the next printed one says how many
 /// they are.
 #[derive(Clone, Copy, Debug)]
-pub struct Seldom<T> {
+pub struct OncePerSecond<T> {
     /// The line that is due: the first one since the last look.
     pub what: Option<T>,
     /// The second in which a line was printed last.
@@ -72,12 +72,12 @@ pub struct Said<T> {
     pub suppressed: u64,
 }
 
-impl<T: Copy> Seldom<T> {
+impl<T: Copy> OncePerSecond<T> {
     /// Makes the state in which no line was printed, and none is due.
-    pub fn new() -> Seldom<T>
+    pub fn new() -> OncePerSecond<T>
         ensures { result ≡ record { what = None; second = None; suppressed = 0 } }
     {
-        Seldom {
+        OncePerSecond {
             what: None,
             second: None,
             suppressed: 0,

@@ -7,7 +7,7 @@ use crate::counts::Counts;
 use crate::options::PROGRAM;
 use crate::sides::{Received, Sent};
 use mc_net::{AfterPump, Client, Guard, Handler, Input, PIECE_LEN, step_after};
-use mc_program::{EprintSeldom, Said, Seldom};
+use mc_program::{EprintSeldom, OncePerSecond, Said};
 use mc_pump::{Pumped, Watch, pump_gathering};
 use mc_server::{AnswerLimit, Server, ServerError};
 use mc_store::Store;
@@ -27,7 +27,7 @@ pub struct ServerHandler<S: Store + Drop> {
     /// The limit of an answer, the counts of all clients, and what is to be noted of the last one.
     watch: Watch,
     /// The pending line about a request whose answer may be too large: how many bytes it might have.
-    too_large: Seldom<u64>,
+    too_large: OncePerSecond<u64>,
     /// The bytes of memory that are kept for when the system gives none.
     reserve: usize,
     ghost reads: { 0 < vec_len piece },
@@ -48,7 +48,7 @@ impl<S: Store + Drop> ServerHandler<S> {
             counts,
             piece: Vec::from_elem(alloc, 0, PIECE_LEN)?,
             watch: Watch::new(AnswerLimit { bytes: answer }),
-            too_large: Seldom::new(),
+            too_large: OncePerSecond::new(),
             reserve,
         })
     }
