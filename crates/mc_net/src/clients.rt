@@ -13,7 +13,7 @@ use crate::reports::Report;
 use crate::steps::AfterPump;
 use crate::strangers::{Refusal, opening};
 use mc_program::{EprintSeldom, OncePerSecond, Said, Ticker, earlier};
-use mc_stream::Tally;
+use mc_stream::IoStats;
 use mio::event::Event;
 use mio::net::TcpStream;
 use mio::{Interest, Registry, Token};
@@ -44,7 +44,7 @@ struct ClientSlot<K> {
 impl<K: Drop> ClientSlot<K> {
     /// Records its traffic, from that of all clients before and after its turn.
     #[inline(always)]
-    fn pass(&mut self, before: Tally, after: Tally)
+    fn pass(&mut self, before: IoStats, after: IoStats)
         ensures { self.new ≡ record self.old {
           read = count_after self.old.read before.read after.read;
           written = count_after self.old.written before.written after.written;
@@ -129,7 +129,7 @@ impl<K: Default + Drop> Clients<K> {
     }
 
     /// Returns the report of what was done for them: in `uptime` seconds, with `accepted` accepted clients, and with this tally.
-    pub fn report(&self, uptime: u64, accepted: u64, tally: Tally) -> Report {
+    pub fn report(&self, uptime: u64, accepted: u64, tally: IoStats) -> Report {
         Report {
             uptime,
             connections: self.slots.len(),

@@ -4,7 +4,7 @@ ghost use Rattle.std.specs.Prelude.{◌≡◌, ◌<◌, ◌^◌};
 use crate::first_lines::FirstLine;
 use crate::inputs::Readiness;
 use crate::steps::AfterPump;
-use mc_stream::Tally;
+use mc_stream::IoStats;
 use mio::net::TcpStream;
 
 /// A client of a program on sockets: its socket, and what is known of it.
@@ -47,5 +47,5 @@ pub trait Handler<K> {
     fn owes(&self, number: u64) -> bool;
 
     /// Returns the traffic of all clients.
-    fn tally(&self) -> Tally;
+    fn tally(&self) -> IoStats;
 }

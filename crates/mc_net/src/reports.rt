@@ -1,7 +1,7 @@
 //! What a program has done for its clients, as it is printed.
 
 use mc_admin::ClientFigures;
-use mc_stream::Tally;
+use mc_stream::IoStats;
 use std::fmt;
 use std::fmt::{Display, Formatter};
 
@@ -17,7 +17,7 @@ pub struct Report {
     /// How many of these were closed as they connected: there was no place or no memory for them, or they were strangers.
     pub refused: u64,
     /// Requests, and bytes of clients.
-    pub tally: Tally,
+    pub tally: IoStats,
 }
 
 impl Report {
@@ -48,7 +48,7 @@ impl Report {
 
 impl Display for Report {
     fn fmt<W: fmt::Write>(&self, f: &mut Formatter<W>) -> fmt::Result {
-        let Tally {
+        let IoStats {
             requests,
             read,
             written,

@@ -7,7 +7,7 @@ use mc_proxy_pump::{ClientTally, Pumped, pump_client, pump_link};
 use mc_server::Server;
 use mc_server_tests::Call::{Fails, Moves};
 use mc_server_tests::{Call, MANY, MOMENT, MeagreStore, SCRIPTS, Sides, Stream, WIDE, new_server};
-use mc_stream::Tally;
+use mc_stream::IoStats;
 use std::alloc::{AllocError, Global};
 use std::test::Fail;
 
@@ -126,7 +126,15 @@ fn serve(server: &mut Server<MeagreStore>, number: u64, link: &mut Stream) -> Re
 fn pump_server(proxy: &mut Proxy, link: &mut Stream, woken: &mut Vec<u64>) -> Result<(), Fail> {
     let mut piece = [0u8; 16];
     let Stream { source, sink } = link;
-    let pumped = pump_link(proxy, 0, source, sink, &mut piece, woken, &mut Tally::new());
+    let pumped = pump_link(
+        proxy,
+        0,
+        source,
+        sink,
+        &mut piece,
+        woken,
+        &mut IoStats::new(),
+    );
     if (pumped == Pumped::Failed || pumped == Pumped::Done) && proxy.is_up(0) {
         proxy.lost(0)?;
     }

@@ -7,7 +7,7 @@ ghost use Rattle.mc_proxy_pump.specs.LinkRounds.{ReceivesLink, SendsLink, TakesR
 ghost use Rattle.mc_stream.specs.Sides.{pump_of};
 
 use mc_proxy::{LinkStep, Proxy};
-use mc_stream::{MAX_ROUNDS, Pumped, Tally, read_once, write_once};
+use mc_stream::{IoStats, MAX_ROUNDS, Pumped, read_once, write_once};
 use std::io::{Read, Write};
 
 /// Carries a link's bytes between a proxy and the two sides of a nonblocking stream, and matches each reply to its command.
@@ -27,7 +27,7 @@ pub fn pump_link<R: Read, W: Write>(
     writer: &mut W,
     piece: &mut [u8],
     woken: &mut Vec<u64>,
-    tally: &mut Tally,
+    tally: &mut IoStats,
 ) -> Pumped
     requires piece { 0 < length piece.old }
     ensures pumps { (link_at proxy.old.links server).up ≡ true → PumpsLink server result proxy.old proxy.new
@@ -54,7 +54,7 @@ fn round<R: Read, W: Write>(
     writer: &mut W,
     piece: &mut [u8],
     woken: &mut Vec<u64>,
-    tally: &mut Tally,
+    tally: &mut IoStats,
 ) -> Result<(), Pumped>
     requires is_up { (link_at proxy.old.links server).up ≡ true }
     requires piece { 0 < length piece.old }
@@ -79,7 +79,7 @@ fn send<W: Write>(
     proxy: &mut Proxy,
     server: usize,
     writer: &mut W,
-    tally: &mut Tally,
+    tally: &mut IoStats,
 ) -> Result<bool, Pumped>
     requires { (link_at proxy.old.links server).up ≡ true }
     ensures { SendsLink server result proxy.old proxy.new (W.contents writer.old) (W.contents writer.new) }
@@ -100,7 +100,7 @@ fn receive<R: Read>(
     ended: &mut bool,
     reader: &mut R,
     piece: &mut [u8],
-    tally: &mut Tally,
+    tally: &mut IoStats,
 ) -> Result<bool, Pumped>
     requires is_up { (link_at proxy.old.links server).up ≡ true }
     requires goes_on { ended.old ≡ false }

@@ -2,13 +2,13 @@
 ghost use Rattle.std.specs.Prelude.{◌≡◌, is_some};
 ghost use Rattle.mc_proxy_pump.specs.Tallies.{counted, fresh_tally};
 
-use mc_stream::Tally;
+use mc_stream::IoStats;
 
 /// The traffic of a proxy's clients.
 #[derive(Clone, Copy, Debug)]
 pub struct ClientTally {
     /// Requests that were taken, and bytes.
-    pub passed: Tally,
+    pub passed: IoStats,
     /// Requests that were answered by a miss, or by nothing, because a command of theirs was lost; none if they are not counted. It wraps
     /// to 0 after 2^64 - 1.
     pub missed: Option<u64>,
@@ -20,7 +20,7 @@ impl ClientTally {
         ensures { result ≡ fresh_tally counts }
     {
         ClientTally {
-            passed: Tally::new(),
+            passed: IoStats::new(),
             missed: counts.then_some(0),
         }
     }

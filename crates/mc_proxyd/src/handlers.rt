@@ -7,7 +7,7 @@ use mc_program::ServeError;
 use mc_proxy::{Losses, MAX_SESSIONS, Proxy};
 use mc_proxy_pump::{ClientTally, Pumped, is_owed, pump_answers, pump_client};
 use mc_ring::Ring;
-use mc_stream::Tally;
+use mc_stream::IoStats;
 use std::alloc::Global;
 use std::collections::HashMap;
 
@@ -144,7 +144,7 @@ impl Handler<Held> for ProxyHandler {
         is_owed(&self.proxy, number)
     }
 
-    fn tally(&self) -> Tally {
+    fn tally(&self) -> IoStats {
         self.tally.passed
     }
 }

@@ -13,7 +13,7 @@ use mc_net::{Input, Readiness, keep_alive_by, reset, spelled_address};
 use mc_program::earlier;
 use mc_proxy::Proxy;
 use mc_proxy_pump::{Pumped, pump_link};
-use mc_stream::Tally;
+use mc_stream::IoStats;
 use mio::event::Event;
 use mio::net::TcpStream;
 use mio::{Interest, Registry, Token};
@@ -313,7 +313,7 @@ impl Upstream {
         };
         let mut output = stream;
         let before = proxy.waiting(server);
-        let mut tally = Tally::new();
+        let mut tally = IoStats::new();
         let pumped = pump_link(
             proxy,
             server,

@@ -4,7 +4,7 @@ ghost use Rattle.mc_pump.specs.Counts.{refusal_in};
 
 use mc_request::Fault;
 use mc_server::AnswerLimit;
-use mc_stream::Tally;
+use mc_stream::IoStats;
 
 /// The limit and the counts of connections while they are pumped.
 #[derive(Clone, Copy, Debug, PartialEq, Eq)]
@@ -12,7 +12,7 @@ pub struct Watch {
     /// The most bytes that an answer may have: a request whose answer may have more fails the pump, and is not taken.
     pub limit: AnswerLimit,
     /// The requests and bytes that passed.
-    pub tally: Tally,
+    pub tally: IoStats,
     /// Whether a request was refused, since its answer might have more. No pump resets it.
     pub refused: bool,
     /// The number of requests whose answer says that there is no memory to store something. It begins again at 0 after 2^64 - 1.
@@ -27,7 +27,7 @@ impl Watch {
     {
         Watch {
             limit,
-            tally: Tally::new(),
+            tally: IoStats::new(),
             refused: false,
             no_memory: 0,
         }

@@ -11,7 +11,7 @@ use mc_program::{EprintSeldom, OncePerSecond, Said};
 use mc_pump::{Pumped, Watch, pump_gathering};
 use mc_server::{AnswerLimit, Server, ServerError};
 use mc_store::Store;
-use mc_stream::Tally;
+use mc_stream::IoStats;
 use std::alloc::{AllocError, Global};
 use std::mem;
 use std::rc::Rc;
@@ -138,7 +138,7 @@ impl<S: Store + Drop> Handler<()> for ServerHandler<S> {
         !self.server.output(number).is_empty()
     }
 
-    fn tally(&self) -> Tally {
+    fn tally(&self) -> IoStats {
         self.watch.tally
     }
 }

@@ -3,7 +3,7 @@ ghost use Rattle.std.specs.Prelude.{◌≡◌, ◌+◌, ◌%◌, ◌^◌};
 
 /// Counts of requests that were taken, bytes that were read and bytes that were written. Each count begins again at 0 after 2^64 - 1.
 #[derive(Clone, Copy, Debug, PartialEq, Eq)]
-pub struct Tally {
+pub struct IoStats {
     /// Requests and faults that were taken.
     pub requests: u64,
     /// Bytes that were read.
@@ -12,12 +12,12 @@ pub struct Tally {
     pub written: u64,
 }
 
-impl Tally {
+impl IoStats {
     /// Makes a tally of zeros.
-    pub fn new() -> Tally
+    pub fn new() -> IoStats
         ensures { result ≡ record { requests = 0; read = 0; written = 0 } }
     {
-        Tally {
+        IoStats {
             requests: 0,
             read: 0,
             written: 0,
