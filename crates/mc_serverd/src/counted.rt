@@ -1,7 +1,7 @@
 //! A store that counts its operations.
 ghost use Rattle.std.specs.Prelude.{◌≡◌};
 
-use crate::counts::Counts;
+use crate::counts::StoreStats;
 use mc_item::{Body, Deadline};
 use mc_store::Store;
 use mc_text::Key;
@@ -11,12 +11,12 @@ use std::rc::Rc;
 #[derive(Drop)]
 pub struct Counted<S: Store + Drop> {
     store: S,
-    counts: Rc<Counts>,
+    counts: Rc<StoreStats>,
 }
 
 impl<S: Store + Drop> Counted<S> {
     /// Makes a store over another.
-    pub fn new(store: S, counts: Rc<Counts>) -> Counted<S>
+    pub fn new(store: S, counts: Rc<StoreStats>) -> Counted<S>
         ensures { result.store ≡ store }
     {
         Counted { store, counts }

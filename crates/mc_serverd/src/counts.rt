@@ -11,9 +11,9 @@ use std::fmt::{Display, Formatter};
 /// moment, which decides whether an item is expired. Each number begins again at 0 after 2^64 - 1.
 ///
 /// The numbers are in cells, since a store and its host share them. No clause sees what a cell holds: tests show that each call counts,
-/// and that [`figures`](Counts::figures) has each number under its name.
+/// and that [`figures`](StoreStats::figures) has each number under its name.
 #[derive(Drop)]
-pub struct Counts {
+pub struct StoreStats {
     moment: Cell<u64>,
     hits: Cell<u64>,
     misses: Cell<u64>,
@@ -25,10 +25,10 @@ pub struct Counts {
     refusals: Cell<Refusals>,
 }
 
-impl Counts {
+impl StoreStats {
     /// Makes counts of 0, at the moment 0.
-    pub fn new() -> Counts {
-        Counts {
+    pub fn new() -> StoreStats {
+        StoreStats {
             moment: Cell::new(0),
             hits: Cell::new(0),
             misses: Cell::new(0),
@@ -132,7 +132,7 @@ impl Counts {
     }
 }
 
-impl Display for Counts {
+impl Display for StoreStats {
     fn fmt<W: fmt::Write>(&self, f: &mut Formatter<W>) -> fmt::Result {
         let (hits, misses, stores) = (self.hits.get(), self.misses.get(), self.stores.get());
         let (evictions, expired) = (self.evictions.get(), self.expired.get());

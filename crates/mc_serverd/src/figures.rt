@@ -3,7 +3,7 @@ ghost use Rattle.std.specs.Prelude.{◌≡◌, codes, decimal, map};
 ghost use Rattle.mc_serverd.specs.Settings.{cas_from_word, settings_shown, shown, store_word};
 
 use crate::cas_from::CasFrom;
-use crate::counts::Counts;
+use crate::counts::StoreStats;
 use crate::kinds::StoreKind;
 use crate::settings::{Service, Settings};
 use mc_admin::{Setting, Sheet, Value, push_client_figures, push_store_figures};
@@ -21,7 +21,7 @@ pub fn show<R: Files>(
     operators: &mut Operators,
     listed: &Option<Listed>,
     done: &Report,
-    counts: &Counts,
+    counts: &StoreStats,
     settings: &Settings,
     moment: u64,
 ) {
@@ -38,7 +38,7 @@ fn try_show<R: Files>(
     operators: &mut Operators,
     listed: &Option<Listed>,
     done: &Report,
-    counts: &Counts,
+    counts: &StoreStats,
     settings: &Settings,
     moment: u64,
 ) -> Result<(), AllocError> {

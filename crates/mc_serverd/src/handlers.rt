@@ -3,7 +3,7 @@ ghost use Rattle.std.specs.Prelude.{◌≡◌, ◌<◌, ◌^◌, None, IsSome, l
 ghost use Rattle.mc_server.specs.ServerState.{connection_at};
 ghost use Rattle.mc_pump.specs.Pumps.{Pumps};
 
-use crate::counts::Counts;
+use crate::counts::StoreStats;
 use crate::options::PROGRAM;
 use crate::sides::{Received, Sent};
 use mc_net::{AfterPump, Client, Guard, Handler, Input, PIECE_LEN, step_after};
@@ -21,7 +21,7 @@ use std::rc::Rc;
 pub struct ServerHandler<S: Store + Drop> {
     server: Server<S>,
     /// What the server's store has done, and how often memory was refused.
-    counts: Rc<Counts>,
+    counts: Rc<StoreStats>,
     /// The buffer of reads: made once.
     piece: Vec<u8>,
     /// The limit of an answer, the counts of all clients, and what is to be noted of the last one.
@@ -39,7 +39,7 @@ impl<S: Store + Drop> ServerHandler<S> {
     pub fn new(
         alloc: Global,
         server: Server<S>,
-        counts: Rc<Counts>,
+        counts: Rc<StoreStats>,
         answer: usize,
         reserve: usize,
     ) -> Result<Self, AllocError> {

@@ -2,7 +2,7 @@
 ghost use Rattle.std.specs.Prelude.{◌<◌, ◌^◌};
 
 use crate::clocks::Seconds;
-use crate::counts::Counts;
+use crate::counts::StoreStats;
 use crate::figures::show;
 use crate::handlers::ServerHandler;
 use crate::items::advice_of;
@@ -32,7 +32,7 @@ pub struct ServerLoop<'a, S: Store + Drop> {
     clients: Clients<()>,
     operators: Operators,
     /// What the server's store has done.
-    counts: Rc<Counts>,
+    counts: Rc<StoreStats>,
     settings: Settings,
     /// Whether it has reported that its items are at their limit while much of its budget is free.
     advised: bool,
@@ -77,7 +77,7 @@ impl<'a, S: Store + Drop> ServerLoop<'a, S> {
         alloc: Global,
         listen: &'a str,
         server: Server<S>,
-        counts: Rc<Counts>,
+        counts: Rc<StoreStats>,
         settings: &Settings,
         operators: Operators,
         moment: u64,

@@ -8,7 +8,7 @@ use crate::cas_from::last_number;
 use crate::chosen::ChosenStore;
 use crate::clocks::Seconds;
 use crate::counted::Counted;
-use crate::counts::Counts;
+use crate::counts::StoreStats;
 use crate::hosts::ServerLoop;
 use crate::kinds::StoreKind;
 use crate::settings::Settings;
@@ -49,7 +49,7 @@ pub fn serve<R: Net + RandomSource + Wait + Files + Print + EprintSeldom, C: Sec
     operators: Operators,
     clock: &mut C,
 ) -> Result<(), ServeError> {
-    let counts = Rc::new(alloc, Counts::new()).map_err(|_| ServeError::Memory)?;
+    let counts = Rc::new(alloc, StoreStats::new()).map_err(|_| ServeError::Memory)?;
     let start = clock.now();
     let server = new_server(rt, alloc, settings, counts.clone()?, start)?;
     let service = settings.service;
@@ -63,7 +63,7 @@ fn new_server<R: RandomSource>(
     rt: &R,
     alloc: Global,
     settings: &Settings,
-    counts: Rc<Counts>,
+    counts: Rc<StoreStats>,
     second: u64,
 ) -> Result<Server<Counted<ChosenStore>>, ServeError>
     ensures cache { let last = last_number settings.now.cas_from second in
