@@ -13,7 +13,7 @@ use std::collections::HashMap;
 
 /// How many bytes a client has sent, and servers have sent for it, since it last had no pending answer: no fewer than are buffered
 /// for it.
-pub type Held = u64;
+pub type BufferedBytes = u64;
 
 /// A proxy, and what its clients share.
 #[derive(Drop)]
@@ -58,7 +58,7 @@ impl ProxyHandler {
     }
 
     /// Sends a client its answers, and returns what is done with it next. Once it has no pending answer, it is served again.
-    fn drain(&mut self, client: &mut Client<Held>) -> AfterPump
+    fn drain(&mut self, client: &mut Client<BufferedBytes>) -> AfterPump
         ensures { client.new.number ≡ client.old.number }
     {
         let mut output = &client.stream;
@@ -79,7 +79,7 @@ impl ProxyHandler {
     }
 
     /// Carries a client's bytes, takes its requests, and emits its answers. It counts the traffic.
-    fn pump(&mut self, client: &mut Client<Held>) -> Pumped
+    fn pump(&mut self, client: &mut Client<BufferedBytes>) -> Pumped
         ensures { client.new.number ≡ client.old.number }
     {
         let mut input = Input {
@@ -105,7 +105,7 @@ impl ProxyHandler {
     }
 }
 
-impl Handler<Held> for ProxyHandler {
+impl Handler<BufferedBytes> for ProxyHandler {
     fn admit(&mut self, key: usize) -> Option<u64> {
         let session = self.proxy.admit().ok()?;
         if self.keys.insert(session, key).is_err() {
@@ -121,7 +121,7 @@ impl Handler<Held> for ProxyHandler {
     }
 
     /// Serves a client. If too many bytes are buffered for it, the proxy only sends its answers.
-    fn serve(&mut self, client: &mut Client<Held>, _moment: u64) -> AfterPump {
+    fn serve(&mut self, client: &mut Client<BufferedBytes>, _moment: u64) -> AfterPump {
         if client.kept > self.most {
             return self.drain(client);
         }

@@ -2,7 +2,7 @@
 ghost use Rattle.std.specs.Prelude.{◌<◌, ◌^◌};
 
 use crate::figures::{Done, show};
-use crate::handlers::{Held, ProxyHandler};
+use crate::handlers::{BufferedBytes, ProxyHandler};
 use crate::joining::Joining;
 use crate::limits::MAX_PASSES;
 use crate::listings::Listing;
@@ -37,7 +37,7 @@ pub struct ProxyLoop<'a> {
     settings: &'a ProxySettings,
     operators: Operators,
     handler: ProxyHandler,
-    clients: Clients<Held>,
+    clients: Clients<BufferedBytes>,
     pool: Upstreams,
     joining: Joining<'a>,
     /// The file that lists the servers, if there is one.
