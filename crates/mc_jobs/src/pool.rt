@@ -5,7 +5,7 @@ use crate::digests::Digest;
 use crate::errors::JobError;
 use crate::keys::{Stock, append_key, append_number, by_rank, large_len, small_len};
 use crate::randoms::Random;
-use crate::served::{Held, opened, turn_all};
+use crate::served::{TableServer, opened, turn_all};
 use mc_proxy::{Emit, LinkStep, Proxy, SessionTurn};
 use mc_ring::{Address, Ring};
 use std::alloc::{AllocError, Global};
@@ -36,7 +36,7 @@ const KEY_BITS: u32 = 17;
 #[derive(Drop)]
 struct Pool {
     proxy: Proxy,
-    servers: Vec<Held>,
+    servers: Vec<TableServer>,
     /// The connection that each server's link has now.
     connections: Vec<u64>,
     moment: u32,

@@ -15,7 +15,7 @@ use std::random::RandomSource;
 const ANSWER: AnswerLimit = AnswerLimit { bytes: 67_108_864 };
 
 /// A server over a table, with our own hasher.
-pub type Held = Server<TableStore<SecretState>>;
+pub type TableServer = Server<TableStore<SecretState>>;
 
 /// A source that always returns the same bytes, so that each run takes the same steps.
 struct Fixed;
@@ -32,7 +32,7 @@ impl RandomSource for Fixed {
 }
 
 /// A server without a connection, whose cache has these limits.
-pub fn opened(alloc: Global, budget: u64, items: usize) -> Result<Held, JobError> {
+pub fn opened(alloc: Global, budget: u64, items: usize) -> Result<TableServer, JobError> {
     let hasher = SecretState::new(&Fixed).map_err(|_| JobError::Refused)?;
     if !mc_cache::is_within_bounds(budget, items) {
         return Err(JobError::Refused);
@@ -45,7 +45,7 @@ pub fn opened(alloc: Global, budget: u64, items: usize) -> Result<Held, JobError
 /// A server and the answers to its clients.
 #[derive(Drop)]
 pub struct Served {
-    server: Held,
+    server: TableServer,
     /// The moment in seconds.
     pub moment: u32,
     pub digest: Digest,
@@ -114,7 +114,7 @@ impl Served {
 }
 
 /// Takes turns of a connection until none is pending.
-pub fn turn_all(server: &mut Held, number: u64, moment: u32) -> Result<(), JobError> {
+pub fn turn_all(server: &mut TableServer, number: u64, moment: u32) -> Result<(), JobError> {
     for _ in 0..u64::MAX {
         match server.turn_within(number, u64::from(moment), ANSWER) {
             Ok(Limited::Turned(Turn::Took)) => {}
