@@ -14,7 +14,7 @@ use Rattle.mc_net.specs.Places.{ends, EndsTheSame, SaysTheSame, ending_text, pla
 use Rattle.mc_net.specs.declared.endings.Ending.{Ending}
 use Rattle.mc_net.specs.declared.endings.Ending.TheVariants.{Between, H, Ht, Htt, Http, Version, Spaces, Return, Other}
 use Rattle.mc_net.specs.declared.first_words.FirstWord.{FirstWord}
-use Rattle.mc_net.specs.declared.places.Place.TheVariants.{First, Later}
+use Rattle.mc_net.specs.declared.places.WordStart.TheVariants.{First, Later}
 use Rattle.mc_net.specs.declared.openings.Stranger.TheVariants as strangers
 use Rattle.mc_net.specs.declared.openings.Opening.{Opening}
 use Rattle.mc_net.specs.declared.openings.Opening.TheVariants.{Unsettled, Text, Strange}

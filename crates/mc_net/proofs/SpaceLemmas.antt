@@ -11,8 +11,8 @@ use Rattle.mc_text.specs.Words.{words, without_spaces}
 use Rattle.mc_net.specs.FirstLines.{end_in_version, first_line_says}
 use Rattle.mc_net.specs.Places.{ends, EndsTheSame, SaysTheSame, ending_text, place_text}
 use Rattle.mc_net.specs.declared.endings.Ending.{Ending}
-use Rattle.mc_net.specs.declared.places.Place.{Place}
-use Rattle.mc_net.specs.declared.places.Place.TheVariants.{Later}
+use Rattle.mc_net.specs.declared.places.WordStart.{WordStart}
+use Rattle.mc_net.specs.declared.places.WordStart.TheVariants.{Later}
 use Rattle.mc_net.proofs.EndLemmas.{cut, lacks, is_space, is_run, words_after, strip_more, strip_after}
 use Rattle.mc_net.proofs.LineLemmas.{space_in_front, empty_line, is_feed, ending_lacks, later, whole}
 
@@ -205,7 +205,7 @@ later_unended end next bytes h alike =
     let lacking : lacks is_feed bytes ≡ true = rw (whole bytes) at h in
     λ rest. later_more end next bytes lacking alike rest ∙ ap (λ (t : List ℕ). first_line_says (t ++ rest)) (sym (append-nil (place_text (Later next))))
 
-pub later_ended : (end next : Ending) (place : Place) (bytes line more : List ℕ) (k : ℕ) → k < length bytes → (get_or bytes k 0 == 10) ≡ true
+pub later_ended : (end next : Ending) (place : WordStart) (bytes line more : List ℕ) (k : ℕ) → k < length bytes → (get_or bytes k 0 == 10) ≡ true
     → lacks is_feed (take k bytes) ≡ true → line ≡ take k bytes → more ≡ drop (k + 1) bytes → EndsTheSame (ending_text end ++ line) (ending_text next)
     → SaysTheSame (place_text (Later next) ++ 10 ∷ []) (place_text place) → SaysTheSame (place_text (Later end) ++ bytes) (place_text place ++ more)
 later_ended end next place bytes line more k inside feed h line_is more_is alike ended =

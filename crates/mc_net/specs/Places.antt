@@ -6,8 +6,8 @@ use Rattle.mc_net.specs.FirstLines.{end_in_version, first_line_says}
 use Rattle.mc_net.specs.declared.endings.Ending.{Ending}
 use Rattle.mc_net.specs.declared.endings.Ending.TheVariants as endings
 use Rattle.mc_net.specs.declared.first_lines.FirstLine.{FirstLine}
-use Rattle.mc_net.specs.declared.places.Place.{Place}
-use Rattle.mc_net.specs.declared.places.Place.TheVariants as places
+use Rattle.mc_net.specs.declared.places.WordStart.{WordStart}
+use Rattle.mc_net.specs.declared.places.WordStart.TheVariants as places
 
 -- what the end of a line stands for, after its first word
 abbrev pub ending_text : Ending → List ℕ
@@ -22,7 +22,7 @@ ending_text endings.Return = codes "HTTP/ \r"
 ending_text endings.Other = codes "x"
 
 -- what a place stands for: the first word as far as it has arrived, a word that is no command's and the line's end, or a whole line
-abbrev pub place_text : Place → List ℕ
+abbrev pub place_text : WordStart → List ℕ
 place_text (places.First word) = take word.len word.bytes
 place_text (places.Later ending) = codes "x " ++ ending_text ending
 place_text places.Text = codes "x\n"

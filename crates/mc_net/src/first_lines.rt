@@ -2,13 +2,13 @@
 
 use crate::first_words::FirstWord;
 use crate::openings::Opening;
-use crate::places::Place;
+use crate::places::WordStart;
 
 /// What is kept of the first non-empty line of a connection, and of the empty ones in front of it. Contracts see a text that says the
 /// same as the bytes so far, whatever follows.
 #[derive(Clone, Copy, Debug)]
 pub struct FirstLine {
-    place: Place,
+    place: WordStart,
 }
 
 impl FirstLine {
@@ -21,7 +21,7 @@ impl FirstLine {
         ensures { kept_text result ≡ [] }
     {
         FirstLine {
-            place: Place::First(FirstWord::new()),
+            place: WordStart::First(FirstWord::new()),
         }
     }
 

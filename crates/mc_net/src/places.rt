@@ -14,7 +14,7 @@ use memchr::memchr;
 
 /// How far the bytes of a connection are in its first non-empty line.
 #[derive(Clone, Copy, Debug)]
-pub enum Place {
+pub enum WordStart {
     /// Before it, or in its first word.
     First(FirstWord),
     /// After its first word, which names no command.
@@ -25,46 +25,46 @@ pub enum Place {
     Strange,
 }
 
-impl Place {
+impl WordStart {
     /// Returns what the bytes are. Once that is known, nothing that follows says more.
     pub fn opening(self) -> Opening
         ensures says { result ≡ first_line_says (place_text self) }
         ensures stays { result ≢ Opening.Unsettled → (more : List ℕ) → SaysTheSame (place_text self ++ more) (place_text self) }
     {
         match self {
-            Place::First(_) => Opening::Unsettled,
-            Place::Later(_) => Opening::Unsettled,
-            Place::Text => Opening::Text,
-            Place::Strange => Opening::Strange(Stranger::Http),
+            WordStart::First(_) => Opening::Unsettled,
+            WordStart::Later(_) => Opening::Unsettled,
+            WordStart::Text => Opening::Text,
+            WordStart::Strange => Opening::Strange(Stranger::Http),
         }
     }
 
     /// Returns the place after the first of some bytes, or after several, and the bytes that are left. The new place says of those what
     /// the old one says of all.
-    pub fn pass(self, bytes: &[u8]) -> (Place, &[u8])
+    pub fn pass(self, bytes: &[u8]) -> (WordStart, &[u8])
         requires { 0 < length bytes.now }
         ensures says { SaysTheSame (place_text self ++ bytes.now) (place_text result.0 ++ result.1.now) }
         ensures shorter { length result.1.now < length bytes.now }
     {
         match self {
-            Place::First(word) => after_first(word, bytes),
-            Place::Later(ending) => after_later(ending, bytes),
-            Place::Text => (Place::Text, &[]),
-            Place::Strange => (Place::Strange, &[]),
+            WordStart::First(word) => after_first(word, bytes),
+            WordStart::Later(ending) => after_later(ending, bytes),
+            WordStart::Text => (WordStart::Text, &[]),
+            WordStart::Strange => (WordStart::Strange, &[]),
         }
     }
 }
 
 /// Returns the place after a first word, if there is one, and a byte more, and the bytes after it. Empty lines and spaces in front of
 /// the word are passed.
-fn after_first(word: FirstWord, bytes: &[u8]) -> (Place, &[u8])
+fn after_first(word: FirstWord, bytes: &[u8]) -> (WordStart, &[u8])
     requires { 0 < length bytes.now }
     ensures says { SaysTheSame (take word.len word.bytes ++ bytes.now) (place_text result.0 ++ result.1.now) }
     ensures shorter { length result.1.now < length bytes.now }
 {
     match behind(word, bytes).split_first() {
         Some((byte, more)) => (after_word(word, *byte), more),
-        None => (Place::First(word), &[]),
+        None => (WordStart::First(word), &[]),
     }
 }
 
@@ -81,9 +81,9 @@ fn behind(word: FirstWord, bytes: &[u8]) -> &[u8]
 }
 
 /// Returns the place after the end of a line and more bytes of it, its line feed included, and the bytes after that.
-fn after_later(ending: Ending, bytes: &[u8]) -> (Place, &[u8])
+fn after_later(ending: Ending, bytes: &[u8]) -> (WordStart, &[u8])
     requires { 0 < length bytes.now }
-    ensures says { SaysTheSame (place_text (Place.Later ending) ++ bytes.now) (place_text result.0 ++ result.1.now) }
+    ensures says { SaysTheSame (place_text (WordStart.Later ending) ++ bytes.now) (place_text result.0 ++ result.1.now) }
     ensures shorter { length result.1.now < length bytes.now }
 {
     match memchr(b'\n', bytes) {
@@ -92,61 +92,61 @@ fn after_later(ending: Ending, bytes: &[u8]) -> (Place, &[u8])
             let (_, more) = bytes.split_at(end + 1);
             (at_end(ending.after(line)), more)
         }
-        None => (Place::Later(ending.after(bytes)), &[]),
+        None => (WordStart::Later(ending.after(bytes)), &[]),
     }
 }
 
 /// Returns the place after the line feed of a line that ends so.
-fn at_end(ending: Ending) -> Place
-    ensures { SaysTheSame (place_text (Place.Later ending) ++ 10 ∷ []) (place_text result) }
+fn at_end(ending: Ending) -> WordStart
+    ensures { SaysTheSame (place_text (WordStart.Later ending) ++ 10 ∷ []) (place_text result) }
 {
     if ending.is_version() {
-        Place::Strange
+        WordStart::Strange
     } else {
-        Place::Text
+        WordStart::Text
     }
 }
 
 /// Returns the place after a first word and a byte more.
-fn after_word(word: FirstWord, byte: u8) -> Place
+fn after_word(word: FirstWord, byte: u8) -> WordStart
     ensures { SaysTheSame (take word.len word.bytes ++ byte ∷ []) (place_text result) }
 {
     match byte {
         b'\n' => after_line(word.as_slice()),
         b' ' => after_space(word),
-        _ if word.is_full() => Place::Later(ending_of(word.as_slice())),
-        _ => Place::First(word.with(byte)),
+        _ if word.is_full() => WordStart::Later(ending_of(word.as_slice())),
+        _ => WordStart::First(word.with(byte)),
     }
 }
 
 /// Returns the place after a line of one word, or none.
-fn after_line(word: &[u8]) -> Place
+fn after_line(word: &[u8]) -> WordStart
     requires { is_word word.now ≡ true }
     ensures { SaysTheSame (word.now ++ 10 ∷ []) (place_text result) }
 {
     let content = content_to(word, word.len());
     if content.is_empty() {
-        Place::First(FirstWord::new())
+        WordStart::First(FirstWord::new())
     } else if is_command(content) {
-        Place::Text
+        WordStart::Text
     } else if is_version(content) {
-        Place::Strange
+        WordStart::Strange
     } else {
-        Place::Text
+        WordStart::Text
     }
 }
 
 /// Returns the place after a first word, if there is one, and a space.
-fn after_space(word: FirstWord) -> Place
+fn after_space(word: FirstWord) -> WordStart
     ensures { SaysTheSame (take word.len word.bytes ++ 32 ∷ []) (place_text result) }
 {
     let bytes = word.as_slice();
     if bytes.is_empty() {
-        Place::First(word)
+        WordStart::First(word)
     } else if is_command(bytes) {
-        Place::Text
+        WordStart::Text
     } else {
-        Place::Later(ending_of(bytes).with_space())
+        WordStart::Later(ending_of(bytes).with_space())
     }
 }
 

@@ -1,6 +1,6 @@
 use Rattle.std.proofs.Common.{sym, refl}
 use Rattle.mc_net.proofs.LineLemmas.{first_says, ending_says, text_says_itself, strange_says_itself, text_stays, strange_stays}
-use Rattle.mc_net.proofs.places.Place.opening.Goals as goal
+use Rattle.mc_net.proofs.places.WordStart.opening.Goals as goal
 
 pub returns-in-First : goal.returns-in-First
 returns-in-First c = record {

@@ -1,5 +1,5 @@
 use Rattle.mc_net.proofs.LineLemmas.{text_stays, strange_stays}
-use Rattle.mc_net.proofs.places.Place.pass.Goals as goal
+use Rattle.mc_net.proofs.places.WordStart.pass.Goals as goal
 
 pub returns-in-Text-clause-says : goal.returns-in-Text-clause-says
 returns-in-Text-clause-says c = rw c.in-Text.is (text_stays c.args.bytes.now)
