@@ -67,7 +67,7 @@ use mc_program::{
 use mc_proxy::{Losses, MAX_SESSIONS};
 use mc_ring::Ring;
 use mistakes::tell_mistake;
-use options::{ListError, Options, PROGRAM, Place, command};
+use options::{ListError, Options, PROGRAM, ServerSource, command};
 use rooms::other_files;
 use serving::serve;
 use settings::ProxySettings;
@@ -169,7 +169,7 @@ fn refusal_of<R: Eprint>(rt: &R, matches: &ArgMatches<'_>, error: ListError) -> 
 /// Returns how the program ends if the words name no pool.
 fn failure_of(error: ListError) -> Failure
     ensures bad { error ≡ ListError.Bad → status_of result ≡ 2 }
-    ensures mistake { (place : Place) → (mistake : Mistake) → error ≡ ListError.At place mistake → status_of result ≡ 2 }
+    ensures mistake { (place : ServerSource) → (mistake : Mistake) → error ≡ ListError.At place mistake → status_of result ≡ 2 }
     ensures held { error ≡ ListError.Held → status_of result ≡ 2 }
     ensures memory { error ≡ ListError.Memory → result ≡ Failure.Serve ServeError.Memory }
 {

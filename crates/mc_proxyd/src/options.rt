@@ -47,7 +47,7 @@ pub struct Options<'a> {
 
 /// Where a list of servers has a mistake.
 #[derive(Clone, Copy, Debug, PartialEq, Eq)]
-pub enum Place {
+pub enum ServerSource {
     /// In the file of `--servers`.
     File,
     /// In the words of the servers.
@@ -70,7 +70,7 @@ pub enum ListError {
     Held,
     /// 4: the list of servers, or the server of `--join`, has this mistake.
     #[error("{1}")]
-    At(Place, Mistake),
+    At(ServerSource, Mistake),
 }
 
 impl From<AllocError> for ListError {
@@ -137,16 +137,16 @@ impl<'a> Options<'a> {
 /// Returns the servers that a file lists. The error is its mistake.
 fn listed<R: Files>(rt: &R, alloc: Global, path: &str) -> Result<Vec<NamedServer>, ListError> {
     let servers = text_of(rt, alloc, path).and_then(|text| servers_in(alloc, text.as_str()));
-    servers.map_err(|mistake| list_error_at(Place::File, mistake))
+    servers.map_err(|mistake| list_error_at(ServerSource::File, mistake))
 }
 
 /// Returns the servers of words. The error is their mistake.
 fn named(alloc: Global, words: &[&str]) -> Result<Vec<NamedServer>, ListError> {
-    servers_of(alloc, words).map_err(|mistake| list_error_at(Place::Words, mistake))
+    servers_of(alloc, words).map_err(|mistake| list_error_at(ServerSource::Words, mistake))
 }
 
 /// Returns the error of a mistake at a place, for the caller that asks for a pool.
-fn list_error_at(place: Place, mistake: Mistake) -> ListError
+fn list_error_at(place: ServerSource, mistake: Mistake) -> ListError
     ensures { result ≡ list_error_at place mistake }
 {
     match mistake {
@@ -179,14 +179,14 @@ fn joining(
         ≡ (if after == 0 then None else option_map (λ word. address_of word.now) join.entry)) }
     ensures right { OnOk result ((after ≡ 0) ⊎ (join_mistake (map (λ server. server.name) servers.now) join.entry ≡ None)) }
     ensures mistake { IfErr result (λ error. (error ≡ ListError.Memory)
-        ⊎ (option_map (λ mistake. list_error_at Place.Join mistake) (join_mistake (map (λ server. server.name) servers.now) join.entry) ≡ Some error)) }
+        ⊎ (option_map (λ mistake. list_error_at ServerSource.Join mistake) (join_mistake (map (λ server. server.name) servers.now) join.entry) ≡ Some error)) }
 {
     if after == 0 {
         return Ok(None);
     }
     match joiner(alloc, servers, join) {
         Ok(server) => Ok(Some((server, after))),
-        Err(mistake) => Err(list_error_at(Place::Join, mistake)),
+        Err(mistake) => Err(list_error_at(ServerSource::Join, mistake)),
     }
 }
 
