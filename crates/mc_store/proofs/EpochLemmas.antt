@@ -6,7 +6,7 @@ use Rattle.std.specs.Option.{option_map}
 use Rattle.std.proofs.lemmas.List.{length_push}
 use Rattle.mc_table.specs.Tables.{put_entry}
 use Rattle.mc_item.specs.declared.bodies.Body.{Body}
-use Rattle.mc_store.specs.declared.held.Held.{Held}
+use Rattle.mc_store.specs.declared.epoch_entries.EpochEntry.{EpochEntry}
 use Rattle.mc_store.specs.Items.{Items, body_at, without}
 use Rattle.mc_store.specs.Epochs.{Entries, live, AreDead, IsParted, HasRoom, IsLetGo, IsGivenBack}
 use Rattle.mc_store.specs.Recents.{written}
@@ -21,7 +21,7 @@ dead_cut key epoch (entry ∷ entries) dead =
     grind (arith, cut)
 
 -- what is stored in dead entries is dead
-dead_held : (key : List ℕ) (epoch : ℕ) (entries : Entries) (held : Held) → AreDead epoch entries → held_at key entries ≡ Some held → held.epoch < epoch
+dead_held : (key : List ℕ) (epoch : ℕ) (entries : Entries) (held : EpochEntry) → AreDead epoch entries → held_at key entries ≡ Some held → held.epoch < epoch
 dead_held key epoch [] held dead at = absurd cc
 dead_held key epoch (entry ∷ entries) held dead at =
     let again : held_at key entries ≡ Some held → held.epoch < epoch = dead_held key epoch entries held dead.1 in
@@ -95,7 +95,7 @@ absent_is key (suc count) (entry ∷ entries) none =
     grind (arith, held_at)
 
 -- nor is what was put in another epoch
-dead_is : (key : List ℕ) (epoch count : ℕ) (entries : Entries) (held : Held) → IsParted epoch count entries → held_at key entries ≡ Some held
+dead_is : (key : List ℕ) (epoch count : ℕ) (entries : Entries) (held : EpochEntry) → IsParted epoch count entries → held_at key entries ≡ Some held
     → held.epoch ≢ epoch → body_at key (live count entries) ≡ None
 dead_is key epoch zero entries held parted at other = refl
 dead_is key epoch (suc count) [] held parted at other = absurd parted
@@ -104,7 +104,7 @@ dead_is key epoch (suc count) (entry ∷ entries) held parted at other =
     grind (arith, held_at)
 
 -- a live entry, and what is left without it
-pub record IsLiveAt (key : List ℕ) (epoch count : ℕ) (entries : Entries) (held : Held) : Type 0 where
+pub record IsLiveAt (key : List ℕ) (epoch count : ℕ) (entries : Entries) (held : EpochEntry) : Type 0 where
   pub others : ℕ
   pub one_more : count ≡ suc others
   pub body : body_at key (live count entries) ≡ Some held.body
@@ -112,7 +112,7 @@ pub record IsLiveAt (key : List ℕ) (epoch count : ℕ) (entries : Entries) (he
   pub left : live others (cut key entries) ≡ without key (live count entries)
   pub dead : drop others (cut key entries) ≡ drop count entries
 
-live_is : (key : List ℕ) (epoch count : ℕ) (entries : Entries) (held : Held) → IsParted epoch count entries → held_at key entries ≡ Some held
+live_is : (key : List ℕ) (epoch count : ℕ) (entries : Entries) (held : EpochEntry) → IsParted epoch count entries → held_at key entries ≡ Some held
     → held.epoch ≡ epoch → IsLiveAt key epoch count entries held
 live_is key epoch zero entries held parted at now = absurd (omega (arith, dead_held key epoch entries held parted at, now))
 live_is key epoch (suc count) [] held parted at now = absurd parted
@@ -121,11 +121,11 @@ live_is key epoch (suc count) (entry ∷ entries) held parted at now =
     grind (arith, held_at, cut)
 
 -- what a look-up says of the live ones
-pub looks_live : (key : List ℕ) (epoch count : ℕ) (entries : Entries) (held : Held) → IsParted epoch count entries
+pub looks_live : (key : List ℕ) (epoch count : ℕ) (entries : Entries) (held : EpochEntry) → IsParted epoch count entries
     → lookup (bytes_eq key) entries ≡ Some held → held.epoch ≡ epoch → IsLiveAt key epoch count entries held
 looks_live key epoch count entries held parted found now = live_is key epoch count entries held parted (sym (lookup_is key entries) ∙ found) now
 
-pub looks_dead : (key : List ℕ) (epoch count : ℕ) (entries : Entries) (held : Held) → IsParted epoch count entries
+pub looks_dead : (key : List ℕ) (epoch count : ℕ) (entries : Entries) (held : EpochEntry) → IsParted epoch count entries
     → lookup (bytes_eq key) entries ≡ Some held → held.epoch ≢ epoch → body_at key (live count entries) ≡ None
 looks_dead key epoch count entries held parted found other = dead_is key epoch count entries held parted (sym (lookup_is key entries) ∙ found) other
 
@@ -144,14 +144,14 @@ pub record IsWritten (key : List ℕ) (epoch count : ℕ) (old new : Entries) (b
   pub items : live count new ≡ (key, after) ∷ without key (live count old)
   pub dead : drop count new ≡ drop count old
 
-writes_held : (key : List ℕ) (epoch count : ℕ) (old : Entries) (held after : Held) → IsParted epoch count old
+writes_held : (key : List ℕ) (epoch count : ℕ) (old : Entries) (held after : EpochEntry) → IsParted epoch count old
     → Some held ≡ lookup (bytes_eq key) old → held.epoch ≡ epoch → after.epoch ≡ epoch → IsWritten key epoch count old (written key old after) held.body after.body
 writes_held key epoch count old held after parted found now still =
     let at : held_at key old ≡ Some held = sym (found ∙ lookup_is key old) in
     let there : IsLiveAt key epoch count old held = live_is key epoch count old held parted at now in
     grind (arith, cut, set_is)
 
-pub writes : (key : List ℕ) (epoch count : ℕ) (old new : Entries) (held after : Held) → IsParted epoch count old
+pub writes : (key : List ℕ) (epoch count : ℕ) (old new : Entries) (held after : EpochEntry) → IsParted epoch count old
     → Some held ≡ lookup (bytes_eq key) old → held.epoch ≡ epoch → after.epoch ≡ epoch → new ≡ written key old after
     → IsWritten key epoch count old new held.body after.body
 writes key epoch count old new held after parted found now still is = rw is (writes_held key epoch count old held after parted found now still)
@@ -163,7 +163,7 @@ pub record IsReplaced (key : List ℕ) (epoch count price : ℕ) (old new : Entr
   pub items : live count new ≡ (key, after) ∷ without key (live count old)
   pub dead : IsLetGo price 0 (drop count old) (drop count new)
 
-pub replaces : (key : List ℕ) (epoch count price : ℕ) (old mid new : Entries) (held after : Held) → IsParted epoch count old
+pub replaces : (key : List ℕ) (epoch count price : ℕ) (old mid new : Entries) (held after : EpochEntry) → IsParted epoch count old
     → Some held ≡ lookup (bytes_eq key) old → held.epoch ≡ epoch → after.epoch ≡ epoch → mid ≡ written key old after → IsLetGo price count mid new
     → IsReplaced key epoch count price old new held.body after.body
 replaces key epoch count price old mid new held after parted found now still is go =
@@ -177,7 +177,7 @@ replaces key epoch count price old mid new held after parted found now still is 
     }
 
 -- what freeing a dead entry leaves that a look-up has promoted
-pub lets_go : (key : List ℕ) (epoch count : ℕ) (old mid new : Entries) (held : Held) → IsParted epoch count old
+pub lets_go : (key : List ℕ) (epoch count : ℕ) (old mid new : Entries) (held : EpochEntry) → IsParted epoch count old
     → Some held ≡ lookup (bytes_eq key) old → held.epoch ≢ epoch → mid ≡ written key old held → new ≡ drop 1 mid
     → IsParted epoch count new × (live count new ≡ live count old) × (body_at key (live count old) ≡ None)
 lets_go key epoch count old mid new held parted found other promoted is =
@@ -188,18 +188,18 @@ lets_go key epoch count old mid new held parted found other promoted is =
     (rw left rest.0, rw left rest.1, absent)
 
 -- what taking the entry out leaves
-found_is : (key : List ℕ) (old : Entries) (entry : List ℕ × Held) → lookup_entry (bytes_eq key) old ≡ Some entry
+found_is : (key : List ℕ) (old : Entries) (entry : List ℕ × EpochEntry) → lookup_entry (bytes_eq key) old ≡ Some entry
     → (entry.0 ≡ key) × (held_at key old ≡ Some entry.1)
 found_is key old entry found = grind (arith, held_at, entry_is)
 
-pub record IsTaken (key : List ℕ) (epoch count less : ℕ) (old new : Entries) (entry : List ℕ × Held) : Type 0 where
+pub record IsTaken (key : List ℕ) (epoch count less : ℕ) (old new : Entries) (entry : List ℕ × EpochEntry) : Type 0 where
   pub some : 0 < count
   pub own : entry.0 ≡ key
   pub body : body_at key (live count old) ≡ Some entry.1.body
   pub parted : IsParted epoch less new
   pub left : live less new ≡ without key (live count old)
 
-pub takes : (key : List ℕ) (epoch count less : ℕ) (old new : Entries) (entry : List ℕ × Held) → IsParted epoch count old
+pub takes : (key : List ℕ) (epoch count less : ℕ) (old new : Entries) (entry : List ℕ × EpochEntry) → IsParted epoch count old
     → lookup_entry (bytes_eq key) old ≡ Some entry → new ≡ remove_entry (bytes_eq key) old → entry.1.epoch ≡ epoch → less ≡ count - 1
     → IsTaken key epoch count less old new entry
 takes key epoch count less old new entry parted found is now one_less =
@@ -207,7 +207,7 @@ takes key epoch count less old new entry parted found is now one_less =
     let at : IsLiveAt key epoch count old entry.1 = live_is key epoch count old entry.1 parted there.1 now in
     grind (arith, cut, remove_is)
 
-pub takes_dead : (key : List ℕ) (epoch count : ℕ) (old new : Entries) (entry : List ℕ × Held) → IsParted epoch count old
+pub takes_dead : (key : List ℕ) (epoch count : ℕ) (old new : Entries) (entry : List ℕ × EpochEntry) → IsParted epoch count old
     → lookup_entry (bytes_eq key) old ≡ Some entry → new ≡ remove_entry (bytes_eq key) old → entry.1.epoch ≢ epoch
     → IsParted epoch count new × (live count new ≡ live count old) × (body_at key (live count old) ≡ None)
 takes_dead key epoch count old new entry parted found is other =
@@ -217,7 +217,7 @@ takes_dead key epoch count old new entry parted found is other =
     let rest : IsParted epoch count (cut key old) × (live count (cut key old) ≡ live count old) = parted_cut key epoch count old parted absent in
     (rw cuts rest.0, rw cuts rest.1, absent)
 
-none_is : (key : List ℕ) (held : Option Held) → ◌≡◌ {A = Option (List ℕ × Held)} (option_map (λ (h : Held). (key, h)) held) None → held ≡ None
+none_is : (key : List ℕ) (held : Option EpochEntry) → ◌≡◌ {A = Option (List ℕ × EpochEntry)} (option_map (λ (h : EpochEntry). (key, h)) held) None → held ≡ None
 none_is key None none = refl
 none_is key (Some held) none = absurd cc
 
@@ -238,9 +238,9 @@ cut_none key (entry ∷ entries) none =
     let again : held_at key entries ≡ None → cut key entries ≡ entries = cut_none key entries in
     grind (arith, held_at, cut)
 
-put_is : (key : List ℕ) (held : Held) (old : Entries) → put_entry bytes_eq key held old ≡ (key, held) ∷ cut key old
+put_is : (key : List ℕ) (held : EpochEntry) (old : Entries) → put_entry bytes_eq key held old ≡ (key, held) ∷ cut key old
 put_is key held old =
-    (elim (held_at key old) as (λ (o : Option Held). held_at key old ≡ o → put_entry bytes_eq key held old ≡ (key, held) ∷ cut key old) [
+    (elim (held_at key old) as (λ (o : Option EpochEntry). held_at key old ≡ o → put_entry bytes_eq key held old ≡ (key, held) ∷ cut key old) [
       | None ↦ λ at. rw (entry_is key old, at, cut_none key old at) refl
       | Some before ↦ λ at. rw (entry_is key old, at, remove_is key old) refl
     ]) refl
@@ -250,7 +250,7 @@ pub record IsPut (key : List ℕ) (epoch count more price : ℕ) (old new : Entr
   pub items : live more new ≡ (key, body) ∷ live count old
   pub dead : IsGivenBack key price (drop count old) (drop more new)
 
-pub puts : (key : List ℕ) (epoch count more price : ℕ) (old mid new : Entries) (held : Held) → IsParted epoch count old → IsLetGo price count old mid
+pub puts : (key : List ℕ) (epoch count more price : ℕ) (old mid new : Entries) (held : EpochEntry) → IsParted epoch count old → IsLetGo price count old mid
     → body_at key (live count old) ≡ None → held.epoch ≡ epoch → more ≡ count + 1 → new ≡ put_entry bytes_eq key held mid
     → IsPut key epoch count more price old new held.body
 puts key epoch count more price old mid new held parted go absent now one_more is =
@@ -274,7 +274,7 @@ pub same_room : (most : ℕ) (old new : Option ℕ) → HasRoom most old → new
 same_room most old new has is = rw is has
 
 -- of entries that are all live the last is the last item
-pops_live : (epoch : ℕ) (front : Entries) (last : List ℕ × Held) → IsParted epoch (length (front ++ last ∷ [])) (front ++ last ∷ [])
+pops_live : (epoch : ℕ) (front : Entries) (last : List ℕ × EpochEntry) → IsParted epoch (length (front ++ last ∷ [])) (front ++ last ∷ [])
     → IsParted epoch (length front) front
     × (live (length (front ++ last ∷ [])) (front ++ last ∷ []) ≡ live (length front) front ++ (last.0, last.1.body) ∷ [])
 pops_live epoch [] last parted = (tt, refl)
@@ -282,12 +282,12 @@ pops_live epoch (entry ∷ front) last parted =
     let again = pops_live epoch front last parted.1 in
     ((parted.0, again.0), ap (λ (is : Items). (entry.0, entry.1.body) ∷ is) again.1)
 
-pub record IsPopped (epoch count less : ℕ) (old new : Entries) (last : List ℕ × Held) : Type 0 where
+pub record IsPopped (epoch count less : ℕ) (old new : Entries) (last : List ℕ × EpochEntry) : Type 0 where
   pub some : 0 < count
   pub parted : IsParted epoch less new
   pub ends : live count old ≡ live less new ++ (last.0, last.1.body) ∷ []
 
-pub pops : (epoch count less : ℕ) (old new : Entries) (last : List ℕ × Held) → IsParted epoch count old → length old ≡ count
+pub pops : (epoch count less : ℕ) (old new : Entries) (last : List ℕ × EpochEntry) → IsParted epoch count old → length old ≡ count
     → old ≡ new ++ last ∷ [] → less ≡ count - 1 → IsPopped epoch count less old new last
 pops epoch count less old new last parted all ends one_less =
     let whole : IsParted epoch (length (new ++ last ∷ [])) (new ++ last ∷ []) =
@@ -295,7 +295,7 @@ pops epoch count less old new last parted all ends one_less =
     grind (arith, length_push, pops_live)
 
 -- one more entry that goes from the back
-pub goes_one : (initial old new out : Entries) (last : List ℕ × Held) → initial ≡ old ++ out → old ≡ new ++ last ∷ []
+pub goes_one : (initial old new out : Entries) (last : List ℕ × EpochEntry) → initial ≡ old ++ out → old ≡ new ++ last ∷ []
     → (initial ≡ new ++ (last ∷ out)) × (length old ≡ length new + 1)
 goes_one initial old new out last is ends =
     (is ∙ ap (λ (es : Entries). es ++ out) ends ∙ append_assoc new (last ∷ []) out, ap length ends ∙ length_push new last)

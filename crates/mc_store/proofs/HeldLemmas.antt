@@ -5,11 +5,11 @@ use Rattle.std.specs.Str.{bytes_eq}
 use Rattle.std.specs.Map.{lookup, lookup_entry, remove_entry, set_value}
 use Rattle.std.specs.Option.{option_map}
 use Rattle.mc_table.specs.Tables.{promoted}
-use Rattle.mc_store.specs.declared.held.Held.{Held}
+use Rattle.mc_store.specs.declared.epoch_entries.EpochEntry.{EpochEntry}
 use Rattle.mc_store.specs.Epochs.{Entries}
 
 -- what is stored under a key
-abbrev pub held_at : List ℕ → Entries → Option Held
+abbrev pub held_at : List ℕ → Entries → Option EpochEntry
 held_at key [] = None
 held_at key (entry ∷ entries) = cond (bytes_eq entry.0 key) (Some entry.1) (held_at key entries)
 
@@ -29,22 +29,23 @@ remove_is key [] = refl
 remove_is key (entry ∷ entries) = rw (nat_list_eq_equiv.symm key entry.0, remove_is key entries) refl
 
 -- the entry that a look-up finds has the key
-pub entry_is : (key : List ℕ) (entries : Entries) → lookup_entry (bytes_eq key) entries ≡ option_map (λ (held : Held). (key, held)) (held_at key entries)
+pub entry_is : (key : List ℕ) (entries : Entries) → lookup_entry (bytes_eq key) entries ≡ option_map (λ (held : EpochEntry). (key, held)) (held_at key entries)
 entry_is key [] = refl
 entry_is key (entry ∷ entries) =
-    let again : lookup_entry (bytes_eq key) entries ≡ option_map (λ (held : Held). (key, held)) (held_at key entries) = entry_is key entries in
+    let again : lookup_entry (bytes_eq key) entries ≡ option_map (λ (held : EpochEntry). (key, held)) (held_at key entries) = entry_is key entries in
     rw (nat_list_eq_equiv.symm key entry.0) ((elim (bytes_eq entry.0 key) as (λ v. bytes_eq entry.0 key ≡ v
-    → cond v (Some entry) (lookup_entry (bytes_eq key) entries) ≡ option_map (λ (held : Held). (key, held)) (cond v (Some entry.1) (held_at key entries))) [
+    → cond v (Some entry) (lookup_entry (bytes_eq key) entries) ≡ option_map (λ (held : EpochEntry). (key, held))
+    (cond v (Some entry.1) (held_at key entries))) [
       | true ↦ λ same. let own : entry.0 ≡ key = same_text entry.0 key (sym same) in rw (sym own) refl
       | false ↦ λ differ. again
     ]) refl)
 
 -- an entry that is promoted goes first
-pub promoted_is : (key : List ℕ) (entries : Entries) (held : Held) → held_at key entries ≡ Some held
+pub promoted_is : (key : List ℕ) (entries : Entries) (held : EpochEntry) → held_at key entries ≡ Some held
     → promoted (bytes_eq key) entries ≡ (key, held) ∷ cut key entries
 promoted_is key entries held at = rw (entry_is key entries, at, remove_is key entries) refl
 
 -- what is written to it is first
-pub set_is : (key : List ℕ) (entries : Entries) (held after : Held) → held_at key entries ≡ Some held
+pub set_is : (key : List ℕ) (entries : Entries) (held after : EpochEntry) → held_at key entries ≡ Some held
     → set_value (bytes_eq key) (promoted (bytes_eq key) entries) after ≡ (key, after) ∷ cut key entries
 set_is key entries held after at = rw (promoted_is key entries held at, nat_list_eq_equiv.refl key) refl

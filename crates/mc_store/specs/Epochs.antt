@@ -3,12 +3,12 @@ use Rattle.std.specs.Prelude.{◌≡◌, ℕ, zero, suc, ◌+◌, ◌<◌, ◌�
 use Rattle.std.specs.Map.{remove_entry}
 use Rattle.std.specs.Str.{bytes_eq}
 use Rattle.mc_item.specs.Costs.{cost_of}
-use Rattle.mc_store.specs.declared.held.Held.{Held}
+use Rattle.mc_store.specs.declared.epoch_entries.EpochEntry.{EpochEntry}
 use Rattle.mc_store.specs.Items.{Items}
 
 -- keys, and what is stored under them
 abbrev pub Entries : Type 0
-Entries = List (List ℕ × Held)
+Entries = List (List ℕ × EpochEntry)
 
 -- the items of the first n entries
 abbrev pub live : ℕ → Entries → Items

@@ -5,7 +5,7 @@ ghost use Rattle.mc_item.specs.Costs.{cost_of};
 ghost use Rattle.mc_store.specs.Epochs.{IsLetGo, IsGivenBack, HasRoom};
 ghost use Rattle.mc_store.specs.Items.{body_at, front_body, without, brought, expiring, marking};
 
-use crate::held::Held;
+use crate::epoch_entries::EpochEntry;
 use crate::recent::Recent;
 use mc_item::{Body, Deadline, cost};
 use mc_text::Key;
@@ -272,7 +272,7 @@ impl<M: Recent> EpochCache<M> {
         ensures most { self.new.most ≡ self.old.most }
     {
         let_go(&mut self.cache, self.count, cost(&key, &body));
-        let held = Held {
+        let held = EpochEntry {
             body,
             epoch: self.epoch,
         };

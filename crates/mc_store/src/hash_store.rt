@@ -4,7 +4,7 @@ ghost use Rattle.mc_store.specs.Epochs.{HasRoom};
 ghost use Rattle.mc_store.specs.Items.{cost_sum};
 
 use crate::epoch_cache::EpochCache;
-use crate::held::Held;
+use crate::epoch_entries::EpochEntry;
 use crate::recent::Recent;
 use crate::stores::Store;
 use crate::sums::Sums;
@@ -43,10 +43,10 @@ impl From<AllocError> for StoreError {
 pub type FixedHasher = BuildHasherDefault<FoldHasher>;
 
 /// The items in lru's cache: a node of its own for each, in a list by last use.
-pub type LruStore<H> = HashStore<LruCache<Key, Held, H>>;
+pub type LruStore<H> = HashStore<LruCache<Key, EpochEntry, H>>;
 
 /// The items in our own table, in one vector: it takes less memory per item than an [`LruStore`], and causes fewer cache misses.
-pub type TableStore<H> = HashStore<Table<Key, Held, H>>;
+pub type TableStore<H> = HashStore<Table<Key, EpochEntry, H>>;
 
 /// Items in a container that finds them by a hash, in the order of their last use: an [`LruStore`] or a [`TableStore`]. It keeps sums over them.
 ///

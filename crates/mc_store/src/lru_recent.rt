@@ -3,13 +3,13 @@ ghost use Rattle.std.specs.Prelude.{Some, refl};
 ghost use Rattle.lru.specs.LruCache.{lru_cache};
 ghost use Rattle.mc_store.specs.Recents.{written};
 
-use crate::held::Held;
+use crate::epoch_entries::EpochEntry;
 use crate::recent::Recent;
 use lru::LruCache;
 use mc_text::{Key, KeyBytes};
 use std::hash::BuildHasher;
 
-impl<H: BuildHasher> Recent for LruCache<Key, Held, H> {
+impl<H: BuildHasher> Recent for LruCache<Key, EpochEntry, H> {
     ghost entries = { λ c. c.entries };
 
     ghost room = { λ c. Some c.cap };
@@ -26,38 +26,38 @@ impl<H: BuildHasher> Recent for LruCache<Key, Held, H> {
     }
 
     #[inline]
-    fn peek(&self, key: &[u8]) -> Option<&Held> {
+    fn peek(&self, key: &[u8]) -> Option<&EpochEntry> {
         LruCache::peek(self, KeyBytes { bytes: key })
     }
 
     #[inline]
-    fn front(&self) -> Option<&Held> {
+    fn front(&self) -> Option<&EpochEntry> {
         let (_, held) = self.peek_mru()?;
         Some(held)
     }
 
     #[inline]
-    fn get_mut(&mut self, key: &[u8]) -> Option<&mut Held> {
+    fn get_mut(&mut self, key: &[u8]) -> Option<&mut EpochEntry> {
         LruCache::get_mut(self, KeyBytes { bytes: key })
     }
 
     #[inline]
-    fn pop_entry(&mut self, key: &[u8]) -> Option<(Key, Held)> {
+    fn pop_entry(&mut self, key: &[u8]) -> Option<(Key, EpochEntry)> {
         LruCache::pop_entry(self, KeyBytes { bytes: key })
     }
 
     #[inline]
-    fn pop_mru(&mut self) -> Option<(Key, Held)> {
+    fn pop_mru(&mut self) -> Option<(Key, EpochEntry)> {
         LruCache::pop_mru(self)
     }
 
     #[inline]
-    fn pop_lru(&mut self) -> Option<(Key, Held)> {
+    fn pop_lru(&mut self) -> Option<(Key, EpochEntry)> {
         LruCache::pop_lru(self)
     }
 
     #[inline]
-    fn put(&mut self, key: Key, held: Held) -> Result<(), (Key, Held)> {
+    fn put(&mut self, key: Key, held: EpochEntry) -> Result<(), (Key, EpochEntry)> {
         match LruCache::put(self, key, held) {
             Ok(_) => Ok(()),
             Err(failed) => Err(failed.value),

@@ -2,7 +2,7 @@
 ghost use Rattle.std.specs.Prelude.{None, refl};
 ghost use Rattle.mc_store.specs.Recents.{written};
 
-use crate::held::Held;
+use crate::epoch_entries::EpochEntry;
 use crate::recent::Recent;
 use mc_table::Table;
 use mc_text::{Key, KeyBytes};
@@ -20,7 +20,7 @@ const AT_ONCE: usize = 32;
 /// Prefetches the key and the value of an entry: returns the first byte of the key, those at `LINES` of the value and its last, joined by
 /// exclusive or; 0 if there is no entry. The returned byte only keeps the loads alive.
 #[inline]
-fn bytes_of(entry: Option<(&Key, &Held)>) -> u8 {
+fn bytes_of(entry: Option<(&Key, &EpochEntry)>) -> u8 {
     let Some((key, held)) = entry else {
         return 0;
     };
@@ -32,7 +32,7 @@ fn bytes_of(entry: Option<(&Key, &Held)>) -> u8 {
     joined ^ value.last().copied().unwrap_or(0)
 }
 
-impl<H: BuildHasher> Recent for Table<Key, Held, H> {
+impl<H: BuildHasher> Recent for Table<Key, EpochEntry, H> {
     ghost entries = { λ t. t };
 
     ghost room = { λ _. None };
@@ -49,28 +49,28 @@ impl<H: BuildHasher> Recent for Table<Key, Held, H> {
     }
 
     #[inline]
-    fn peek(&self, key: &[u8]) -> Option<&Held> {
+    fn peek(&self, key: &[u8]) -> Option<&EpochEntry> {
         Table::peek(self, KeyBytes { bytes: key })
     }
 
     #[inline]
-    fn find(&self, key: &[u8], guess: u32) -> Option<(u32, &Held)> {
+    fn find(&self, key: &[u8], guess: u32) -> Option<(u32, &EpochEntry)> {
         Table::find(self, KeyBytes { bytes: key }, guess)
     }
 
     #[inline]
-    fn front(&self) -> Option<&Held> {
+    fn front(&self) -> Option<&EpochEntry> {
         let (_, held) = self.peek_mru()?;
         Some(held)
     }
 
     #[inline]
-    fn get_mut(&mut self, key: &[u8]) -> Option<&mut Held> {
+    fn get_mut(&mut self, key: &[u8]) -> Option<&mut EpochEntry> {
         Table::get_mut(self, KeyBytes { bytes: key })
     }
 
     #[inline]
-    fn get_mut_by(&mut self, key: &[u8], guess: u32) -> Option<&mut Held> {
+    fn get_mut_by(&mut self, key: &[u8], guess: u32) -> Option<&mut EpochEntry> {
         Table::get_mut_by(self, KeyBytes { bytes: key }, guess)
     }
 
@@ -95,12 +95,12 @@ impl<H: BuildHasher> Recent for Table<Key, Held, H> {
     }
 
     #[inline]
-    fn pop_entry(&mut self, key: &[u8]) -> Option<(Key, Held)> {
+    fn pop_entry(&mut self, key: &[u8]) -> Option<(Key, EpochEntry)> {
         Table::pop_entry(self, KeyBytes { bytes: key })
     }
 
     #[inline]
-    fn pop_entry_by(&mut self, key: &[u8], guess: u32) -> Option<(Key, Held)> {
+    fn pop_entry_by(&mut self, key: &[u8], guess: u32) -> Option<(Key, EpochEntry)> {
         Table::pop_entry_by(self, KeyBytes { bytes: key }, guess)
     }
 
@@ -110,17 +110,17 @@ impl<H: BuildHasher> Recent for Table<Key, Held, H> {
     }
 
     #[inline]
-    fn pop_mru(&mut self) -> Option<(Key, Held)> {
+    fn pop_mru(&mut self) -> Option<(Key, EpochEntry)> {
         Table::pop_mru(self)
     }
 
     #[inline]
-    fn pop_lru(&mut self) -> Option<(Key, Held)> {
+    fn pop_lru(&mut self) -> Option<(Key, EpochEntry)> {
         Table::pop_lru(self)
     }
 
     #[inline]
-    fn put(&mut self, key: Key, held: Held) -> Result<(), (Key, Held)> {
+    fn put(&mut self, key: Key, held: EpochEntry) -> Result<(), (Key, EpochEntry)> {
         match Table::put(self, key, held) {
             Ok(_) => Ok(()),
             Err(failed) => Err(failed.value),

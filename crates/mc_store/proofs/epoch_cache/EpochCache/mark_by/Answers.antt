@@ -1,5 +1,5 @@
 use Rattle.std.proofs.Common.{refl, sym, ◌∙◌}
-use Rattle.mc_store.specs.declared.held.Held.{Held}
+use Rattle.mc_store.specs.declared.epoch_entries.EpochEntry.{EpochEntry}
 use Rattle.mc_store.proofs.EpochLemmas.{looks_none, lets_go, writes, same_room}
 use Rattle.mc_store.proofs.epoch_cache.EpochCache.mark_by.Goals as goal
 
@@ -31,21 +31,21 @@ returns-then-held-self-clause-items g c =
 
 pub invariant_of-self-2 : goal.invariant_of-self-2
 invariant_of-self-2 g c =
-    let after : Held = record { body = record c.in-Some.held.now.body { cas = c.args.cas; stale = c.args.stale; won = c.args.won }; epoch = c.in-Some.held.now.epoch } in
+    let after : EpochEntry = record { body = record c.in-Some.held.now.body { cas = c.args.cas; stale = c.args.stale; won = c.args.won }; epoch = c.in-Some.held.now.epoch } in
     let wrote = writes c.args.key.now c.self.inside.epoch c.self.inside.count (g.M.Recent.entries c.self.inside.cache) (g.M.Recent.entries (g.M.Recent.lent c.self.inside.cache c.args.key.now after)) c.in-Some.held.now after
     c.self.invariant.0 c.in-Some.ensures.value c.if-held-self.false c.if-held-self.false (g.met.M.Recent.lent_entries c.self.inside.cache c.args.key.now after) in
     (wrote.parted, same_room _ _ _ c.self.invariant.1 (g.met.M.Recent.lent_room c.self.inside.cache c.args.key.now after))
 
 pub returns-clause-held : goal.returns-clause-held
 returns-clause-held g c =
-    let after : Held = record { body = record c.in-Some.held.now.body { cas = c.args.cas; stale = c.args.stale; won = c.args.won }; epoch = c.in-Some.held.now.epoch } in
+    let after : EpochEntry = record { body = record c.in-Some.held.now.body { cas = c.args.cas; stale = c.args.stale; won = c.args.won }; epoch = c.in-Some.held.now.epoch } in
     let wrote = writes c.args.key.now c.self.inside.epoch c.self.inside.count (g.M.Recent.entries c.self.inside.cache) (g.M.Recent.entries (g.M.Recent.lent c.self.inside.cache c.args.key.now after)) c.in-Some.held.now after
     c.self.invariant.0 c.in-Some.ensures.value c.if-held-self.false c.if-held-self.false (g.met.M.Recent.lent_entries c.self.inside.cache c.args.key.now after) in
     rw (← c.self.view_is, wrote.held) refl
 
 pub returns-clause-items : goal.returns-clause-items
 returns-clause-items g c =
-    let after : Held = record { body = record c.in-Some.held.now.body { cas = c.args.cas; stale = c.args.stale; won = c.args.won }; epoch = c.in-Some.held.now.epoch } in
+    let after : EpochEntry = record { body = record c.in-Some.held.now.body { cas = c.args.cas; stale = c.args.stale; won = c.args.won }; epoch = c.in-Some.held.now.epoch } in
     let wrote = writes c.args.key.now c.self.inside.epoch c.self.inside.count (g.M.Recent.entries c.self.inside.cache) (g.M.Recent.entries (g.M.Recent.lent c.self.inside.cache c.args.key.now after)) c.in-Some.held.now after
     c.self.invariant.0 c.in-Some.ensures.value c.if-held-self.false c.if-held-self.false (g.met.M.Recent.lent_entries c.self.inside.cache c.args.key.now after) in
     rw (← c.self.view_is, wrote.held) wrote.items

@@ -1,5 +1,5 @@
 use Rattle.std.proofs.Common.{◌≡◌, ℕ, ◌+◌, ◌∷◌, None, length, drop, refl, sym, ap, ◌∙◌, subst, arith}
-use Rattle.mc_store.specs.declared.held.Held.{Held}
+use Rattle.mc_store.specs.declared.epoch_entries.EpochEntry.{EpochEntry}
 use Rattle.mc_item.specs.Costs.{cost_of}
 use Rattle.mc_store.specs.Items.{body_at}
 use Rattle.mc_store.specs.Epochs.{IsLetGo, IsGivenBack, LiveAndDead, Entries, live, IsParted}
@@ -18,7 +18,7 @@ put-requires g c =
 
 pub invariant_of-self : goal.invariant_of-self
 invariant_of-self g c =
-    let held : Held = record { body = c.args.body; epoch = c.self.inside.epoch } in
+    let held : EpochEntry = record { body = c.args.body; epoch = c.self.inside.epoch } in
     let absent : body_at c.args.key (live c.self.inside.count (g.M.Recent.entries c.self.inside.cache)) ≡ None = ap (λ (s : LiveAndDead). body_at c.args.key s.items) c.self.view_is ∙ c.requires.absent in
     let new = puts c.args.key c.self.inside.epoch c.self.inside.count (c.self.inside.count + 1) c.cost.result (g.M.Recent.entries c.self.inside.cache) (g.M.Recent.entries c.let_go.new.cache) (g.M.Recent.entries c.put.new.self) held
     c.self.invariant.0 c.let_go.ensures.go absent refl refl c.in-Ok.ensures.ok in
@@ -26,7 +26,7 @@ invariant_of-self g c =
 
 pub returns-in-Ok-clause-ok : goal.returns-in-Ok-clause-ok
 returns-in-Ok-clause-ok g c =
-    let held : Held = record { body = c.args.body; epoch = c.self.inside.epoch } in
+    let held : EpochEntry = record { body = c.args.body; epoch = c.self.inside.epoch } in
     let absent : body_at c.args.key (live c.self.inside.count (g.M.Recent.entries c.self.inside.cache)) ≡ None = ap (λ (s : LiveAndDead). body_at c.args.key s.items) c.self.view_is ∙ c.requires.absent in
     let new = puts c.args.key c.self.inside.epoch c.self.inside.count (c.self.inside.count + 1) c.cost.result (g.M.Recent.entries c.self.inside.cache) (g.M.Recent.entries c.let_go.new.cache) (g.M.Recent.entries c.put.new.self) held
     c.self.invariant.0 c.let_go.ensures.go absent refl refl c.in-Ok.ensures.ok in
@@ -34,7 +34,7 @@ returns-in-Ok-clause-ok g c =
 
 pub returns-in-Ok-clause-dead : goal.returns-in-Ok-clause-dead
 returns-in-Ok-clause-dead g c =
-    let held : Held = record { body = c.args.body; epoch = c.self.inside.epoch } in
+    let held : EpochEntry = record { body = c.args.body; epoch = c.self.inside.epoch } in
     let absent : body_at c.args.key (live c.self.inside.count (g.M.Recent.entries c.self.inside.cache)) ≡ None = ap (λ (s : LiveAndDead). body_at c.args.key s.items) c.self.view_is ∙ c.requires.absent in
     let new = puts c.args.key c.self.inside.epoch c.self.inside.count (c.self.inside.count + 1) c.cost.result (g.M.Recent.entries c.self.inside.cache) (g.M.Recent.entries c.let_go.new.cache) (g.M.Recent.entries c.put.new.self) held
     c.self.invariant.0 c.let_go.ensures.go absent refl refl c.in-Ok.ensures.ok in

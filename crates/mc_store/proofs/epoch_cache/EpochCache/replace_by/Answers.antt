@@ -1,6 +1,6 @@
 use Rattle.std.proofs.Common.{◌≡◌, ℕ, ◌∷◌, Some, length, drop, subst, sym, ap, ◌∙◌}
 use Rattle.mc_item.specs.declared.bodies.Body.{Body}
-use Rattle.mc_store.specs.declared.held.Held.{Held}
+use Rattle.mc_store.specs.declared.epoch_entries.EpochEntry.{EpochEntry}
 use Rattle.mc_store.specs.Items.{Items, body_at, without}
 use Rattle.mc_store.specs.Epochs.{IsLetGo, LiveAndDead, Entries, live}
 use Rattle.mc_store.proofs.EpochLemmas.{count-fits, looks_none, lets_go, writes, replaces, same_room}
@@ -32,21 +32,21 @@ returns-then-held-self-clause-err g c =
 
 pub let_go-requires : goal.let_go-requires
 let_go-requires g c =
-    let after : Held = record { body = c.replace-before.new.dest; epoch = c.in-Some.held.now.epoch } in
+    let after : EpochEntry = record { body = c.replace-before.new.dest; epoch = c.in-Some.held.now.epoch } in
     let wrote = writes c.args.key.now c.self.inside.epoch c.self.inside.count (g.M.Recent.entries c.self.inside.cache) (g.M.Recent.entries (g.M.Recent.lent c.self.inside.cache c.args.key.now after)) c.in-Some.held.now after
     c.self.invariant.0 c.in-Some.ensures.value c.if-held-self.false c.if-held-self.false (g.met.M.Recent.lent_entries c.self.inside.cache c.args.key.now after) in
     count-fits c.self.inside.epoch c.self.inside.count (g.M.Recent.entries (g.M.Recent.lent c.self.inside.cache c.args.key.now after)) wrote.parted
 
 pub invariant_of-self-2 : goal.invariant_of-self-2
 invariant_of-self-2 g c =
-    let after : Held = record { body = c.replace-before.new.dest; epoch = c.in-Some.held.now.epoch } in
+    let after : EpochEntry = record { body = c.replace-before.new.dest; epoch = c.in-Some.held.now.epoch } in
     let new = replaces c.args.key.now c.self.inside.epoch c.self.inside.count c.len-price.result (g.M.Recent.entries c.self.inside.cache) (g.M.Recent.entries (g.M.Recent.lent c.self.inside.cache c.args.key.now after)) (g.M.Recent.entries c.let_go.new.cache) c.in-Some.held.now after
     c.self.invariant.0 c.in-Some.ensures.value c.if-held-self.false c.if-held-self.false (g.met.M.Recent.lent_entries c.self.inside.cache c.args.key.now after) c.let_go.ensures.go in
     (new.parted, same_room _ _ _ c.self.invariant.1 (c.let_go.ensures.room ∙ g.met.M.Recent.lent_room c.self.inside.cache c.args.key.now after))
 
 pub returns-clause-before : goal.returns-clause-before
 returns-clause-before g c =
-    let after : Held = record { body = c.replace-before.new.dest; epoch = c.in-Some.held.now.epoch } in
+    let after : EpochEntry = record { body = c.replace-before.new.dest; epoch = c.in-Some.held.now.epoch } in
     let new = replaces c.args.key.now c.self.inside.epoch c.self.inside.count c.len-price.result (g.M.Recent.entries c.self.inside.cache) (g.M.Recent.entries (g.M.Recent.lent c.self.inside.cache c.args.key.now after)) (g.M.Recent.entries c.let_go.new.cache) c.in-Some.held.now after
     c.self.invariant.0 c.in-Some.ensures.value c.if-held-self.false c.if-held-self.false (g.met.M.Recent.lent_entries c.self.inside.cache c.args.key.now after) c.let_go.ensures.go in
     let shown : live c.self.inside.count (g.M.Recent.entries c.self.inside.cache) ≡ c.args.self.now.items = ap (λ (s : LiveAndDead). s.items) c.self.view_is in
@@ -54,7 +54,7 @@ returns-clause-before g c =
 
 pub returns-clause-ok : goal.returns-clause-ok
 returns-clause-ok g c =
-    let after : Held = record { body = c.replace-before.new.dest; epoch = c.in-Some.held.now.epoch } in
+    let after : EpochEntry = record { body = c.replace-before.new.dest; epoch = c.in-Some.held.now.epoch } in
     let new = replaces c.args.key.now c.self.inside.epoch c.self.inside.count c.len-price.result (g.M.Recent.entries c.self.inside.cache) (g.M.Recent.entries (g.M.Recent.lent c.self.inside.cache c.args.key.now after)) (g.M.Recent.entries c.let_go.new.cache) c.in-Some.held.now after
     c.self.invariant.0 c.in-Some.ensures.value c.if-held-self.false c.if-held-self.false (g.met.M.Recent.lent_entries c.self.inside.cache c.args.key.now after) c.let_go.ensures.go in
     let shown : live c.self.inside.count (g.M.Recent.entries c.self.inside.cache) ≡ c.args.self.now.items = ap (λ (s : LiveAndDead). s.items) c.self.view_is in
@@ -63,7 +63,7 @@ returns-clause-ok g c =
 
 pub returns-clause-dead : goal.returns-clause-dead
 returns-clause-dead g c =
-    let after : Held = record { body = c.replace-before.new.dest; epoch = c.in-Some.held.now.epoch } in
+    let after : EpochEntry = record { body = c.replace-before.new.dest; epoch = c.in-Some.held.now.epoch } in
     let new = replaces c.args.key.now c.self.inside.epoch c.self.inside.count c.len-price.result (g.M.Recent.entries c.self.inside.cache) (g.M.Recent.entries (g.M.Recent.lent c.self.inside.cache c.args.key.now after)) (g.M.Recent.entries c.let_go.new.cache) c.in-Some.held.now after
     c.self.invariant.0 c.in-Some.ensures.value c.if-held-self.false c.if-held-self.false (g.met.M.Recent.lent_entries c.self.inside.cache c.args.key.now after) c.let_go.ensures.go in
     subst (λ (es : Entries). IsLetGo (length c.args.body.value) 0 es (drop c.self.inside.count (g.M.Recent.entries c.let_go.new.cache))) (ap (λ (s : LiveAndDead). s.dead) c.self.view_is)
