@@ -15,7 +15,7 @@ ghost use Rattle.mc_cache.specs.Refusals.{is_refusal};
 ghost use Rattle.mc_cache.specs.Admissions.{is_refused, reply_or_fault, renewed, found_body};
 
 use super::Cache;
-use super::settling::Found;
+use super::settling::ItemMeta;
 use super::storing::{Lent, compared};
 use itoa::Buffer;
 use mc_item::Deadline;
@@ -52,7 +52,7 @@ impl<S: Store + Drop> Cache<S> {
         &mut self,
         key: &[u8],
         counting: &Counting,
-        found: Found,
+        found: ItemMeta,
         moment: u64,
     ) -> Reply<()>
         requires moment { moment < 2 ^ 63 }
@@ -108,7 +108,7 @@ impl<S: Store + Drop> Cache<S> {
         key: &[u8],
         number: u64,
         room: usize,
-        found: Found,
+        found: ItemMeta,
     ) -> Result<(), Fault>
         requires held { is_some (body_at key.now self.old.items) ≡ true }
         requires room { room ≡ length (value_at key.now self.old.items) }

@@ -14,7 +14,7 @@ ghost use Rattle.mc_cache.specs.Refusals.{is_refusal};
 ghost use Rattle.mc_cache.specs.Admissions.{IsTold, found_body, body_of};
 
 use super::Cache;
-use super::settling::Found;
+use super::settling::ItemMeta;
 use super::storing::Lent;
 use mc_item::Deadline;
 use mc_reply::{Marks, Reply, Shown};
@@ -46,7 +46,7 @@ impl<S: Store + Drop> Cache<S> {
     }
 
     /// Executes `mg` on a settled cache, in which `found` is the item of the key and is first.
-    fn show_found(&mut self, key: &[u8], get: &MetaGet, found: Found, moment: u64) -> Reply<()>
+    fn show_found(&mut self, key: &[u8], get: &MetaGet, found: ItemMeta, moment: u64) -> Reply<()>
         requires moment { moment < 2 ^ 63 }
         requires found { body_at key.now self.old.items ≡ found_body (Some found) (front_value self.old.items) }
         requires first { self.old.items ≡ brought key.now (body_at key.now self.old.items) self.old.items }
@@ -64,7 +64,7 @@ impl<S: Store + Drop> Cache<S> {
     }
 
     /// Notes at the first item, which is `found`, that a client is told to fill it.
-    fn win(&mut self, key: &[u8], found: Found)
+    fn win(&mut self, key: &[u8], found: ItemMeta)
         requires found { body_at key.now self.old.items ≡ found_body (Some found) (front_value self.old.items) }
         ensures { self.new ≡ record self.old {
           items = brought key.now

@@ -13,7 +13,7 @@ ghost use Rattle.mc_cache.specs.Refusals.{is_refusal};
 ghost use Rattle.mc_cache.specs.Admissions.{content_of, lent_content, is_refused, reply_or_fault, lifted, renewed, found_body};
 
 use super::Cache;
-use super::settling::Found;
+use super::settling::ItemMeta;
 use super::storing::Lent;
 use mc_item::{Body, CasCounter, Deadline, cost_at};
 use mc_reply::Reply;
@@ -188,7 +188,7 @@ impl<S: Store + Drop> Cache<S> {
     }
 
     /// Stores a stored body anew, with this number. It takes no memory.
-    pub(super) fn renew(&mut self, key: &[u8], found: Found, cas: u64)
+    pub(super) fn renew(&mut self, key: &[u8], found: ItemMeta, cas: u64)
         requires found { body_at key.now self.old.items ≡ found_body (Some found) (value_at key.now self.old.items) }
         requires admitted { admission self.old key.now (length (value_at key.now self.old.items)) ≡ Ok cas }
         ensures { self.new
@@ -200,7 +200,7 @@ impl<S: Store + Drop> Cache<S> {
     }
 
     /// Overwrites the stored value by a text that is no longer, with the flags and the expiry of `found`. It takes no memory.
-    pub(super) fn overwrite(&mut self, key: &[u8], text: &[u8], found: Found, cas: u64)
+    pub(super) fn overwrite(&mut self, key: &[u8], text: &[u8], found: ItemMeta, cas: u64)
         requires held { is_some (body_at key.now self.old.items) ≡ true }
         requires fits { length text.now ≤ length (value_at key.now self.old.items) }
         requires admitted { admission self.old key.now (length text.now) ≡ Ok cas }

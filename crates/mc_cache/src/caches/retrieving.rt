@@ -11,7 +11,7 @@ ghost use Rattle.mc_cache.specs.Refusals.{is_refusal};
 ghost use Rattle.mc_cache.specs.Admissions.{found_body, body_of};
 
 use super::Cache;
-use super::settling::Found;
+use super::settling::ItemMeta;
 use super::storing::{compared, guess_of};
 use mc_item::Deadline;
 use mc_reply::Reply;
@@ -79,7 +79,7 @@ impl<S: Store + Drop> Cache<S> {
     }
 
     /// Makes the item of a stored key stale, with a new number.
-    fn invalidate(&mut self, key: &[u8], found: Found) -> Reply<()>
+    fn invalidate(&mut self, key: &[u8], found: ItemMeta) -> Reply<()>
         requires { body_at key.now self.old.items ≡ found_body (Some found) (value_at key.now self.old.items) }
         ensures step { (value : List ℕ) → invalidated self.old key.now (body_of found (value_at key.now self.old.items))
             ≡ (self.new, filled result value) }

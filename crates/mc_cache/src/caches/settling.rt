@@ -18,7 +18,7 @@ use mc_text::Block;
 
 /// What a look-up found: a stored item, all but its value.
 #[derive(Clone, Copy)]
-pub struct Found {
+pub struct ItemMeta {
     /// The client flags.
     pub flags: u32,
     /// When the item expires.
@@ -33,14 +33,14 @@ pub struct Found {
     pub guess: u32,
 }
 
-impl Found {
+impl ItemMeta {
     ghost use Rattle.mc_cache.specs.Step.{numbered, expiry_by};
 
     /// Returns all of a body but its value, with a guess of its item.
-    fn of(body: &Body, guess: u32) -> Found
+    fn of(body: &Body, guess: u32) -> ItemMeta
         ensures { found_body (Some result) body.now.value ≡ Some body.now }
     {
-        Found {
+        ItemMeta {
             flags: body.flags,
             expiry: body.expiry,
             cas: body.cas,
@@ -65,12 +65,12 @@ impl Found {
     }
 
     /// Returns the found item with another expiry, if an exptime is given.
-    pub fn touched(self, exptime: Option<i64>, moment: u64) -> Found
+    pub fn touched(self, exptime: Option<i64>, moment: u64) -> ItemMeta
         requires { moment < 2 ^ 63 }
         ensures { result ≡ record self { expiry = expiry_by exptime moment self.expiry } }
     {
         match exptime {
-            Some(exptime) => Found {
+            Some(exptime) => ItemMeta {
                 expiry: Deadline::of(exptime, moment),
                 ..self
             },
@@ -82,7 +82,7 @@ impl Found {
 impl<S: Store + Drop> Cache<S> {
     /// Brings the cache to a moment for a command on a key, given a guess of its item, and looks the key up. If it is stored, that
     /// moment has changed nothing.
-    pub(super) fn settle(&mut self, key: &[u8], guess: u32, moment: u64) -> Option<Found>
+    pub(super) fn settle(&mut self, key: &[u8], guess: u32, moment: u64) -> Option<ItemMeta>
         ensures settled { self.new ≡ settled self.old (Some key.now) moment }
         ensures found { body_at key.now self.new.items ≡ found_body result (value_at key.now self.new.items) }
         ensures held { OnSome result (self.new ≡ self.old) }
@@ -131,7 +131,7 @@ impl<S: Store + Drop> Cache<S> {
     }
 
     /// Moves the key's item to the front, given a guess of it, and returns what it found.
-    pub(super) fn find(&mut self, key: &[u8], guess: u32) -> Option<Found>
+    pub(super) fn find(&mut self, key: &[u8], guess: u32) -> Option<ItemMeta>
         ensures found { body_at key.now self.old.items ≡ found_body result (front_value self.new.items) }
         ensures items { self.new ≡ fronted self.old key.now }
     {
@@ -140,11 +140,16 @@ impl<S: Store + Drop> Cache<S> {
         }
         let guess = self.store.first_guess();
         let body = self.store.front()?;
-        Some(Found::of(body, guess))
+        Some(ItemMeta::of(body, guess))
     }
 
     /// Brings the cache to a moment for a command on a key, moves the key's item to the front, given a guess of it, and returns what it found.
-    pub(super) fn settle_in_front(&mut self, key: &[u8], guess: u32, moment: u64) -> Option<Found>
+    pub(super) fn settle_in_front(
+        &mut self,
+        key: &[u8],
+        guess: u32,
+        moment: u64,
+    ) -> Option<ItemMeta>
         ensures settled { self.new ≡ fronted (settled self.old (Some key.now) moment) key.now }
         ensures found { body_at key.now (settled self.old (Some key.now) moment).items
             ≡ found_body result (front_value self.new.items) }
@@ -166,10 +171,10 @@ impl<S: Store + Drop> Cache<S> {
         self.pending = None;
     }
 
-    fn look(&self, key: &[u8], guess: u32) -> Option<Found>
+    fn look(&self, key: &[u8], guess: u32) -> Option<ItemMeta>
         ensures { body_at key.now self.now.items ≡ found_body result (value_at key.now self.now.items) }
     {
         let (guess, body) = self.store.find(key, guess)?;
-        Some(Found::of(body, guess))
+        Some(ItemMeta::of(body, guess))
     }
 }

@@ -17,7 +17,7 @@ ghost use Rattle.mc_cache.specs.Admissions.{content_of, lent_content, joined, is
 
 use super::Cache;
 use super::putting::stored_or_fault;
-use super::settling::Found;
+use super::settling::ItemMeta;
 use mc_item::{Body, Deadline};
 use mc_reply::Reply;
 use mc_request::{Fault, StoreMode};
@@ -84,7 +84,7 @@ impl<S: Store + Drop> Cache<S> {
         compare: Option<u64>,
         key: Key,
         body: Body,
-        found: Option<Found>,
+        found: Option<ItemMeta>,
     ) -> Reply<()>
         requires found { body_at key self.old.items ≡ found_body found (value_at key self.old.items) }
         ensures step { (value : List ℕ)
@@ -101,7 +101,7 @@ impl<S: Store + Drop> Cache<S> {
     }
 
     /// Executes `set` on a settled cache, in which `found` is the item of its key. The body's number is not read.
-    pub(super) fn set_own(&mut self, key: Key, body: Body, found: Option<Found>) -> Reply<()>
+    pub(super) fn set_own(&mut self, key: Key, body: Body, found: Option<ItemMeta>) -> Reply<()>
         requires found { body_at key self.old.items ≡ found_body found (value_at key self.old.items) }
         ensures step { (value : List ℕ)
             → store_step self.old None Set key (body_at key self.old.items) (content_of body) (is_refusal result)
@@ -157,7 +157,7 @@ impl<S: Store + Drop> Cache<S> {
         compare: Option<u64>,
         key: &[u8],
         block: &[u8],
-        found: Option<Found>,
+        found: Option<ItemMeta>,
     ) -> Option<Reply<()>>
         requires found { body_at key.now self.old.items ≡ found_body found (value_at key.now self.old.items) }
         ensures step { IfSome result (λ reply. (flags : ℕ) → (expiry : ADeadline) → (won : Bool) → (value : List ℕ)
@@ -183,7 +183,7 @@ impl<S: Store + Drop> Cache<S> {
     }
 
     /// Stores a stored value with a block before or after it. It takes memory if the block has bytes.
-    fn join(&mut self, side: Side, key: &[u8], block: &[u8], found: Found) -> Result<(), Fault>
+    fn join(&mut self, side: Side, key: &[u8], block: &[u8], found: ItemMeta) -> Result<(), Fault>
         requires found { body_at key.now self.old.items ≡ found_body (Some found) (value_at key.now self.old.items) }
         ensures step { (reply : AReply (List ℕ))
             → stored self.old key.now (renewed found (joined side (value_at key.now self.old.items) block.now)) (is_refused result) reply
@@ -222,7 +222,7 @@ pub(super) fn own_body(flags: u32, exptime: i64, block: Block, moment: u64) -> B
 }
 
 /// Returns the guess of the item that was found; 0 if none was.
-pub(super) fn guess_of(found: Option<Found>) -> u32 {
+pub(super) fn guess_of(found: Option<ItemMeta>) -> u32 {
     match found {
         Some(found) => found.guess,
         None => 0,
@@ -230,7 +230,7 @@ pub(super) fn guess_of(found: Option<Found>) -> u32 {
 }
 
 /// Returns the reply to a storage command that stores nothing, by what was found under its key.
-fn unstored(compare: Option<u64>, mode: StoreMode, found: Option<Found>) -> Option<Reply<()>>
+fn unstored(compare: Option<u64>, mode: StoreMode, found: Option<ItemMeta>) -> Option<Reply<()>>
     ensures reply { (before value : List ℕ)
         → option_map (λ reply. filled reply value) result ≡ unstored compare mode (found_body found before) }
     ensures refusal { IfSome result (λ reply. is_refusal reply ≡ false) }
@@ -242,7 +242,7 @@ fn unstored(compare: Option<u64>, mode: StoreMode, found: Option<Found>) -> Opti
 }
 
 /// Returns the reply to a command that compares what was found with a number, and goes no further.
-pub(super) fn compared(compare: Option<u64>, found: Option<Found>) -> Option<Reply<()>>
+pub(super) fn compared(compare: Option<u64>, found: Option<ItemMeta>) -> Option<Reply<()>>
     ensures reply { (before value : List ℕ)
         → option_map (λ reply. filled reply value) result ≡ compared compare (found_body found before) }
     ensures refusal { IfSome result (λ reply. is_refusal reply ≡ false) }
@@ -256,7 +256,7 @@ pub(super) fn compared(compare: Option<u64>, found: Option<Found>) -> Option<Rep
 }
 
 /// Returns the reply to a storage command whose condition is not met by what was found.
-fn unmet(mode: StoreMode, found: Option<Found>) -> Option<Reply<()>>
+fn unmet(mode: StoreMode, found: Option<ItemMeta>) -> Option<Reply<()>>
     ensures reply { (before value : List ℕ)
         → option_map (λ reply. filled reply value) result ≡ unmet mode (found_body found before) }
     ensures refusal { IfSome result (λ reply. is_refusal reply ≡ false) }

@@ -1,5 +1,5 @@
 use Rattle.std.proofs.Common.{refl}
-use Rattle.mc_cache.proofs.caches.settling.Found.with.Goals as goal
+use Rattle.mc_cache.proofs.caches.settling.ItemMeta.with.Goals as goal
 
 -- what is stored anew has no mark
 pub returns : goal.returns
