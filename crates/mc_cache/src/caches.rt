@@ -17,7 +17,7 @@ use mc_store::Store;
 use mc_text::{Block, Key};
 use std::alloc::{AllocError, Global};
 use std::marker::Model;
-use storing::{Lent, own_body};
+use storing::{NewItem, own_body};
 
 /// The most bytes that a cache's budget has.
 pub const MAX_BUDGET: u64 = 1_099_511_627_776;
@@ -273,7 +273,7 @@ impl<S: Store + Drop> Cache<S> {
                 exptime,
                 block,
             } => {
-                let lent = Lent {
+                let lent = NewItem {
                     flags: *flags,
                     expiry: Deadline::of(*exptime, moment),
                     won: false,

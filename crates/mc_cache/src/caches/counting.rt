@@ -16,7 +16,7 @@ ghost use Rattle.mc_cache.specs.Admissions.{is_refused, reply_or_fault, renewed,
 
 use super::Cache;
 use super::settling::ItemMeta;
-use super::storing::{Lent, compared};
+use super::storing::{NewItem, compared};
 use itoa::Buffer;
 use mc_item::Deadline;
 use mc_reply::Reply;
@@ -92,7 +92,7 @@ impl<S: Store + Drop> Cache<S> {
             return Reply::NotFound;
         };
         let mut digits = Buffer::new();
-        let lent = Lent {
+        let lent = NewItem {
             flags: 0,
             expiry: Deadline::of(creation.exptime, moment),
             won: false,

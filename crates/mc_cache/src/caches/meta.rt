@@ -15,7 +15,7 @@ ghost use Rattle.mc_cache.specs.Admissions.{IsTold, found_body, body_of};
 
 use super::Cache;
 use super::settling::ItemMeta;
-use super::storing::Lent;
+use super::storing::NewItem;
 use mc_item::Deadline;
 use mc_reply::{Marks, Reply, Shown};
 use mc_request::{MetaGet, Show};
@@ -87,7 +87,7 @@ impl<S: Store + Drop> Cache<S> {
         let Some(create) = get.create else {
             return Reply::Miss;
         };
-        let lent = Lent {
+        let lent = NewItem {
             flags: 0,
             expiry: Deadline::of(get.exptime.unwrap_or(create), moment),
             won: true,

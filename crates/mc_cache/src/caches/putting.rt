@@ -14,7 +14,7 @@ ghost use Rattle.mc_cache.specs.Admissions.{content_of, lent_content, is_refused
 
 use super::Cache;
 use super::settling::ItemMeta;
-use super::storing::Lent;
+use super::storing::NewItem;
 use mc_item::{Body, CasCounter, Deadline, cost_at};
 use mc_reply::Reply;
 use mc_request::Fault;
@@ -52,7 +52,7 @@ impl<S: Store + Drop> Cache<S> {
         &mut self,
         key: &[u8],
         guess: u32,
-        lent: Lent<'_>,
+        lent: NewItem<'_>,
         is_held: bool,
     ) -> Result<Reply<()>, AllocError>
         requires key { is_key key.now ≡ true }
@@ -78,7 +78,7 @@ impl<S: Store + Drop> Cache<S> {
     }
 
     /// Stores a borrowed item under a key that is not stored, with a new number: then its item is first.
-    pub(super) fn make(&mut self, key: &[u8], lent: Lent<'_>) -> Result<(), Fault>
+    pub(super) fn make(&mut self, key: &[u8], lent: NewItem<'_>) -> Result<(), Fault>
         requires key { is_key key.now ≡ true }
         requires absent { body_at key.now self.old.items ≡ None }
         ensures step { (reply : AReply (List ℕ))
@@ -99,7 +99,7 @@ impl<S: Store + Drop> Cache<S> {
         &mut self,
         key: &[u8],
         guess: u32,
-        lent: Lent<'_>,
+        lent: NewItem<'_>,
         moment: u64,
     ) -> Option<Reply<()>>
         requires { is_key key.now ≡ true }

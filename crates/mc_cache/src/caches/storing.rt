@@ -27,7 +27,7 @@ use std::alloc::{AllocError, Global};
 
 /// The item that a storage command stores, with its block borrowed.
 #[derive(Clone, Copy)]
-pub struct Lent<'a> {
+pub struct NewItem<'a> {
     /// The client flags.
     pub flags: u32,
     /// When the item expires.
@@ -38,7 +38,7 @@ pub struct Lent<'a> {
     pub block: &'a [u8],
 }
 
-impl Lent<'_> {
+impl NewItem<'_> {
     /// Returns the body of this number, with a copy of the block.
     pub fn with(self, value: Block, cas: u64) -> Body
         requires { value ≡ (lent_content self).value }
@@ -122,7 +122,7 @@ impl<S: Store + Drop> Cache<S> {
         compare: Option<u64>,
         key: &[u8],
         guess: u32,
-        lent: Lent<'_>,
+        lent: NewItem<'_>,
         moment: u64,
     ) -> Result<Reply<()>, AllocError>
         requires { is_key key.now ≡ true }
