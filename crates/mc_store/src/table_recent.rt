@@ -88,7 +88,7 @@ impl<H: BuildHasher> Recent for Table<Key, EpochEntry, H> {
             }
             Table::guess_all(self, &tags, guesses);
             for guess in guesses.iter().filter(|guess| **guess != 0) {
-                read ^= bytes_of(self.guessed(*guess)) ^ self.around(*guess);
+                read ^= bytes_of(self.guessed(*guess)) ^ self.prefetch_neighbours(*guess);
             }
         }
         read

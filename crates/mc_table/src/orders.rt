@@ -64,7 +64,7 @@ impl LruList {
 
     /// Prefetches the links before a place and after it. The returned byte is made of them, and only keeps the loads alive.
     #[inline]
-    pub fn around(&self, place: u32) -> u8 {
+    pub fn prefetch_neighbours(&self, place: u32) -> u8 {
         let Some(link) = self.links.get(place as usize) else {
             return 0;
         };

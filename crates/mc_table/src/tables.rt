@@ -194,8 +194,8 @@ impl<K: Eq + Hash, V, S: BuildHasher> Table<K, V, S> {
     /// Prefetches the neighbours in the order of the entry of a guess, before that entry is brought to the front. The returned byte only
     /// keeps the loads alive.
     #[inline]
-    pub fn around(&self, guess: u32) -> u8 {
-        self.order.around(guess)
+    pub fn prefetch_neighbours(&self, guess: u32) -> u8 {
+        self.order.prefetch_neighbours(guess)
     }
 
     /// Inserts a value under a key, in front. If the key exists, it returns the old value, and the old key stays.
