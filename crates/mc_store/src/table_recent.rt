@@ -20,7 +20,7 @@ const AT_ONCE: usize = 32;
 /// Prefetches the key and the value of an entry: returns the first byte of the key, those at `LINES` of the value and its last, joined by
 /// exclusive or; 0 if there is no entry. The returned byte only keeps the loads alive.
 #[inline]
-fn bytes_of(entry: Option<(&Key, &EpochEntry)>) -> u8 {
+fn touch_value_lines(entry: Option<(&Key, &EpochEntry)>) -> u8 {
     let Some((key, held)) = entry else {
         return 0;
     };
@@ -88,7 +88,7 @@ impl<H: BuildHasher> Recent for Table<Key, EpochEntry, H> {
             }
             Table::guess_all(self, &tags, guesses);
             for guess in guesses.iter().filter(|guess| **guess != 0) {
-                read ^= bytes_of(self.guessed(*guess)) ^ self.prefetch_neighbours(*guess);
+                read ^= touch_value_lines(self.guessed(*guess)) ^ self.prefetch_neighbours(*guess);
             }
         }
         read
