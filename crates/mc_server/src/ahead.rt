@@ -62,7 +62,7 @@ pub struct Ahead {
     /// The number of used guesses that were for a refused line.
     refused: u8,
     /// The bytes that the prefetches returned, joined: they only keep the loads alive ([`Store::guess_all`]).
-    read: u8,
+    sink: u8,
     /// Whether the line that is served is refused, and delays the next look.
     vain: bool,
     /// The number of the connection.
@@ -77,7 +77,7 @@ impl Ahead {
             count: 0,
             used: 0,
             refused: 0,
-            read: 0,
+            sink: 0,
             vain: false,
             connection: 0,
         }
@@ -208,7 +208,7 @@ impl Ahead {
             && let Some(guesses) = self.guesses.get_mut(..keys.len())
         {
             self.count = keys.len() as u8;
-            self.read ^= cache.guess_all(keys, guesses);
+            self.sink ^= cache.guess_all(keys, guesses);
             return paused(bytes, pause_after(looked.pause, guesses));
         }
         Looked {
