@@ -37,7 +37,7 @@ use Rattle.mc_world.specs.Applies.{CanServe, CanServeLate, CanTakeRequest, IsUp,
 use Rattle.mc_world.specs.Happens.{Arrives, ArrivesLate, ComesBack, Ends, EntersLate, returned}
 use Rattle.mc_world.specs.Pools.{EndSeen, LateBytes, LateTurn, LinkReturns, ReachesProxy, ReachesServer}
 use Rattle.mc_world.specs.Serving.{PoolServes}
-use Rattle.mc_world.specs.WorldState.{PoolState, SiteState, WayState, histories_of}
+use Rattle.mc_world.specs.WorldState.{PoolState, SiteState, StaleState, histories_of}
 use Rattle.mc_world.specs.declared.errors.Step.TheVariants.{Done, Nothing}
 
 abbrev pub pool_of : ProxyState → List SiteState → PoolState
@@ -202,18 +202,18 @@ gives_up (Err e) links place up memory no_link state only = elim only [
 ]
 
 -- the way of a generation
-pub record FoundWay (generation : ℕ) (ways : List WayState) (i : ℕ) : Type 0 where
-  pub way : WayState
+pub record FoundWay (generation : ℕ) (ways : List StaleState) (i : ℕ) : Type 0 where
+  pub way : StaleState
   pub at : slice_get ways i ≡ Some way
   pub is : way.generation ≡ generation
   pub inside : i < length ways
 
-abbrev no_way : WayState
+abbrev no_way : StaleState
 no_way = record { generation = 0; connection = 0; going = []; untaken = [] }
 
-pub found_way : (generation : ℕ) (ways : List WayState) (i : ℕ) → way_of generation ways ≡ Some i → FoundWay generation ways i
+pub found_way : (generation : ℕ) (ways : List StaleState) (i : ℕ) → way_of generation ways ≡ Some i → FoundWay generation ways i
 found_way generation ways i found =
-    let facts = position-Some (λ (way : WayState). way.generation == generation) ways i no_way found in
+    let facts = position-Some (λ (way : StaleState). way.generation == generation) ways i no_way found in
     record {
       way = slice_index_or ways i no_way;
       at = slice_get-get_or ways i no_way facts.0;
@@ -256,7 +256,8 @@ serves_if place pool site at can =
     subst (λ (s : SiteState). 0 < length (waiting_of (connection_at s.server s.connection))) (same_Some can.site site (sym can.at ∙ at)) can.waits
 
 -- the way at an index is one
-pub same_way : (generation i : ℕ) (ways : List WayState) (found : FoundWay generation ways i) (way : WayState) → slice_get ways i ≡ Some way → way ≡ found.way
+pub same_way : (generation i : ℕ) (ways : List StaleState) (found : FoundWay generation ways i) (way : StaleState) → slice_get ways i ≡ Some way
+    → way ≡ found.way
 same_way generation i ways found way at = same_Some way found.way (sym at ∙ found.at)
 
 -- bytes of a lost generation arrived
@@ -266,7 +267,7 @@ pub reached_late : (place i count generation : ℕ) (proxy : ProxyState) (sites 
 reached_late place i count generation proxy sites site now at found h = (
   i,
   record { there = record { site = site; now = now; at = at; sites = refl; proxy = refl }; arrives = h },
-  ap (λ (w : WayState). w.generation) (same_way generation i site.lost found h.way h.way_at) ∙ found.is,
+  ap (λ (w : StaleState). w.generation) (same_way generation i site.lost found h.way h.way_at) ∙ found.is,
 )
 
 -- a server took a request of it
@@ -276,17 +277,17 @@ pub served_late : (place i moment generation : ℕ) (proxy : ProxyState) (sites 
 served_late place i moment generation proxy sites site now at found h = (
   i,
   record { there = record { site = site; now = now; at = at; sites = refl; proxy = refl }; enters = h },
-  ap (λ (w : WayState). w.generation) (same_way generation i site.lost found h.way h.way_at) ∙ found.is,
+  ap (λ (w : StaleState). w.generation) (same_way generation i site.lost found h.way h.way_at) ∙ found.is,
 )
 
-pub late_serves_if : (place generation i : ℕ) (pool : PoolState) (site : SiteState) (way : WayState) → slice_get pool.sites place ≡ Some site → way_of generation site.lost ≡ Some i
+pub late_serves_if : (place generation i : ℕ) (pool : PoolState) (site : SiteState) (way : StaleState) → slice_get pool.sites place ≡ Some site → way_of generation site.lost ≡ Some i
     → slice_get site.lost i ≡ Some way → CanServeLate place generation pool → 0 < length (waiting_of (connection_at site.server way.connection))
 late_serves_if place generation i pool site way at first way_at can =
     let same : can.there.site ≡ site = same_Some can.there.site site (sym can.there.at ∙ at) in
     let place_is : can.there.i ≡ i = same_Some can.there.i i (sym can.there.first ∙ ap (λ (s : SiteState). way_of generation s.lost) same ∙ first) in
     let way_is : can.there.way ≡ way = same_Some can.there.way way
     (sym can.there.way_at ∙ ap (λ (s : SiteState). slice_get s.lost can.there.i) same ∙ ap (λ (n : ℕ). slice_get site.lost n) place_is ∙ way_at) in
-    subst (λ (w : WayState). 0 < length (waiting_of (connection_at site.server w.connection))) way_is
+    subst (λ (w : StaleState). 0 < length (waiting_of (connection_at site.server w.connection))) way_is
     (subst (λ (s : SiteState). 0 < length (waiting_of (connection_at s.server can.there.way.connection))) same can.waits)
 
 -- its end was seen
@@ -296,7 +297,7 @@ pub saw_end : (place i generation : ℕ) (proxy : ProxyState) (sites : List Site
 saw_end place i generation proxy sites site now at found h = (
   i,
   record { there = record { site = site; now = now; at = at; sites = refl; proxy = refl }; ends = h },
-  ap (λ (w : WayState). w.generation) (same_way generation i site.lost found h.way h.way_at) ∙ found.is,
+  ap (λ (w : StaleState). w.generation) (same_way generation i site.lost found h.way h.way_at) ∙ found.is,
 )
 
 -- a connection that is open can be closed

@@ -12,7 +12,7 @@ use Rattle.mc_proxy.specs.SessionState.{link_at}
 use Rattle.mc_world.specs.Applies.{CanAdmit, CanReachLate, CanReachProxy, CanReturn, CanServe, CanServeLate, HasLost, IsUp, Lives, way_of}
 use Rattle.mc_world.specs.Courses.{ByWay}
 use Rattle.mc_world.specs.Refusals.{restart_refusal_of}
-use Rattle.mc_world.specs.WorldState.{PoolState, SiteState, WayState}
+use Rattle.mc_world.specs.WorldState.{PoolState, SiteState, StaleState}
 use Rattle.mc_world.specs.declared.errors.WorldError.TheVariants.{NoServer}
 use Rattle.mc_world.proofs.AppliesLemmas.{found_way, late_serves_if, serves_if}
 
@@ -74,7 +74,7 @@ serves_living place pool site at up b told = (
 )
 
 -- a server takes a request of a lost generation
-pub serves_lost : (place generation i : ℕ) (pool : PoolState) (site : SiteState) (way : WayState) → slice_get pool.sites place ≡ Some site → Some i ≡ way_of generation site.lost
+pub serves_lost : (place generation i : ℕ) (pool : PoolState) (site : SiteState) (way : StaleState) → slice_get pool.sites place ≡ Some site → Some i ≡ way_of generation site.lost
     → slice_get site.lost i ≡ Some way → (b : Bool) → IsTrue b ↔ (0 < length (waiting_of (connection_at site.server way.connection))) → IsTrue b ↔ CanServeLate place generation pool
 serves_lost place generation i pool site way at found way_at b told = (
   λ is. record { there = record { site = site; at = at; i = i; first = sym found; way = way; way_at = way_at }; waits = told.0 is },
@@ -82,18 +82,18 @@ serves_lost place generation i pool site way at found way_at b told = (
 )
 
 -- bytes of a lost generation are on their way
-late_going : (place generation i : ℕ) (pool : PoolState) (site : SiteState) (way : WayState) → slice_get pool.sites place ≡ Some site → Some i ≡ way_of generation site.lost
+late_going : (place generation i : ℕ) (pool : PoolState) (site : SiteState) (way : StaleState) → slice_get pool.sites place ≡ Some site → Some i ≡ way_of generation site.lost
     → slice_get site.lost i ≡ Some way → (there : HasLost place generation pool) → there.way ≡ way
 late_going place generation i pool site way at found way_at there =
     let same : there.site ≡ site = same_Some there.site site (sym there.at ∙ at) in
     let place_is : there.i ≡ i = same_Some there.i i (sym there.first ∙ ap (λ (s : SiteState). way_of generation s.lost) same ∙ sym found) in
     same_Some there.way way (sym there.way_at ∙ ap (λ (s : SiteState). slice_get s.lost there.i) same ∙ ap (λ (n : ℕ). slice_get site.lost n) place_is ∙ way_at)
 
-pub reaches_lost : (place generation i count : ℕ) (pool : PoolState) (site : SiteState) (way : WayState) → slice_get pool.sites place ≡ Some site → Some i ≡ way_of generation site.lost
+pub reaches_lost : (place generation i count : ℕ) (pool : PoolState) (site : SiteState) (way : StaleState) → slice_get pool.sites place ≡ Some site → Some i ≡ way_of generation site.lost
     → slice_get site.lost i ≡ Some way → 0 < count → (b : Bool) → IsTrue b ↔ (0 < length way.going) → IsTrue b ↔ CanReachLate place generation count pool
 reaches_lost place generation i count pool site way at found way_at some b told = (
   λ is. record { there = record { site = site; at = at; i = i; first = sym found; way = way; way_at = way_at }; moves = (some, told.0 is) },
-  λ can. told.1 (subst (λ (w : WayState). 0 < length w.going) (late_going place generation i pool site way at found way_at can.there) can.moves.1),
+  λ can. told.1 (subst (λ (w : StaleState). 0 < length w.going) (late_going place generation i pool site way at found way_at can.there) can.moves.1),
 )
 
 -- bytes arrive at the proxy

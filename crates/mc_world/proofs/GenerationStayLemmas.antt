@@ -18,7 +18,7 @@ use Rattle.mc_world.specs.Courses.{Happens}
 use Rattle.mc_world.specs.CourseHolds.{HaveOneGeneration, IsOfLink}
 use Rattle.mc_world.specs.Pools.{AtSite, LinkReturns, LosesLink, cut_off}
 use Rattle.mc_world.specs.Restarts.{ServerRestarts, restarted}
-use Rattle.mc_world.specs.WorldState.{PoolState, SiteState, WayState}
+use Rattle.mc_world.specs.WorldState.{PoolState, SiteState, StaleState}
 use Rattle.mc_world.specs.Worlds.{first_site}
 use Rattle.mc_world.specs.declared.events.Event.{Event}
 use Rattle.mc_world.specs.declared.events.Event.TheVariants.{ClientBytes, ClientGone, ClientTakes, Emit, LinkBack, LinkLost, ProxyTurn, ReplyTurn, ServerSeesEnd, ServerTurn, ToProxy, ToServer}
@@ -76,7 +76,7 @@ moved old new site same h = record { same = h.same ∙ sym same.0; rising = h.ri
 
 -- a site whose lost generations are some of those of another, in order
 fewer : (link : LinkState) (site now : SiteState) (from : ℕ → ℕ) → ((j k : ℕ) → j < k → from j < from k)
-    → ((j : ℕ) (w : WayState) → slice_get now.lost j ≡ Some w → (v : WayState) × (slice_get site.lost (from j) ≡ Some v) × (v.generation ≡ w.generation))
+    → ((j : ℕ) (w : StaleState) → slice_get now.lost j ≡ Some w → (v : StaleState) × (slice_get site.lost (from j) ≡ Some v) × (v.generation ≡ w.generation))
     → now.generation ≡ site.generation → IsOfLink link site → IsOfLink link now
 fewer link site now from rises was same h = record {
   same = same ∙ h.same;
@@ -94,20 +94,20 @@ fewer link site now from rises was same h = record {
 -- the lost generations stay; one of them is another of its generation; one of them has ended
 kept : (site now : SiteState) → now.generation ≡ site.generation → now.lost ≡ site.lost → (link : LinkState) → IsOfLink link site → IsOfLink link now
 kept site now same lost link h =
-    fewer link site now (λ j. j) (λ j k below. below) (λ j w at. (w, ap (λ (ws : List WayState). slice_get ws j) (sym lost) ∙ at, refl)) same h
+    fewer link site now (λ j. j) (λ j k below. below) (λ j w at. (w, ap (λ (ws : List StaleState). slice_get ws j) (sym lost) ∙ at, refl)) same h
 
-kept_set : (site now : SiteState) (i : ℕ) (way other : WayState) → slice_get site.lost i ≡ Some way → other.generation ≡ way.generation
+kept_set : (site now : SiteState) (i : ℕ) (way other : StaleState) → slice_get site.lost i ≡ Some way → other.generation ≡ way.generation
     → now.generation ≡ site.generation → now.lost ≡ slice_set site.lost i other → (link : LinkState) → IsOfLink link site → IsOfLink link now
 kept_set site now i way other at is same lost link h =
     fewer link site now (λ j. j) (λ j k below. below)
     (λ j w at_w. ⊎_elim
-    (λ own. (way, ap (λ (k : ℕ). slice_get site.lost k) own.0 ∙ at, sym is ∙ ap (λ (x : WayState). x.generation) (sym own.1)))
+    (λ own. (way, ap (λ (k : ℕ). slice_get site.lost k) own.0 ∙ at, sym is ∙ ap (λ (x : StaleState). x.generation) (sym own.1)))
     (λ elsewhere. (w, elsewhere.1, refl))
-    (get_set site.lost i other j w (ap (λ (ws : List WayState). slice_get ws j) (sym lost) ∙ at_w))) same h
+    (get_set site.lost i other j w (ap (λ (ws : List StaleState). slice_get ws j) (sym lost) ∙ at_w))) same h
 
 kept_removed : (site now : SiteState) (i : ℕ) → now.generation ≡ site.generation → now.lost ≡ remove site.lost i → (link : LinkState) → IsOfLink link site → IsOfLink link now
 kept_removed site now i same lost link h =
-    fewer link site now (shift i) (shift_rises i) (λ j w at. (w, sym (get_removed site.lost i j) ∙ ap (λ (ws : List WayState). slice_get ws j) (sym lost) ∙ at, refl)) same h
+    fewer link site now (shift i) (shift_rises i) (λ j w at. (w, sym (get_removed site.lost i j) ∙ ap (λ (ws : List StaleState). slice_get ws j) (sym lost) ∙ at, refl)) same h
 
 -- the sites stay
 same_sites : (old new : PoolState) → new.sites ≡ old.sites → SameGenerations old.proxy.links new.proxy.links → HaveOneGeneration old → HaveOneGeneration new
@@ -154,7 +154,7 @@ cut_stays place old new e h =
     let own_link : link_at new.proxy.links place ≡ down_link link.generation =
     ap (λ (ls : List LinkState). link_at ls place) links_are ∙ link_own place (down_link link.generation) old.proxy.links (up_is_there place old.proxy.links e.there.up) in
     let cut = cut_off link site in
-    let way : WayState = record {
+    let way : StaleState = record {
       generation = site.generation;
       connection = site.connection;
       going = link.output;
@@ -165,7 +165,7 @@ cut_stays place old new e h =
       rising = λ i j v w at_v at_w before. ⊎_elim
           (λ here. ⊎_elim
           (λ too. was.rising i j v w here too before)
-          (λ last. let less = was.below e.there.up i v here in let is = ap (λ (x : WayState). x.generation) last.1 in omega (arith, less, is))
+          (λ last. let less = was.below e.there.up i v here in let is = ap (λ (x : StaleState). x.generation) last.1 in omega (arith, less, is))
           (get_pushed site.lost way j w at_w))
           (λ here. ⊎_elim
           (λ too. let inside = got_inside site.lost j w too in let is = here.0 in absurd (omega (arith, inside, is, before)))
@@ -174,7 +174,7 @@ cut_stays place old new e h =
           (get_pushed site.lost way i v at_v);
       most = λ i w at. ⊎_elim
           (λ here. was.most i w here)
-          (λ last. let is = ap (λ (x : WayState). x.generation) last.1 in omega (arith, is))
+          (λ last. let is = ap (λ (x : StaleState). x.generation) last.1 in omega (arith, is))
           (get_pushed site.lost way i w at);
       below = λ up. absurd cc;
     } in
@@ -194,7 +194,7 @@ back_stays place old new e h =
     ap (λ (ls : List LinkState). link_at ls place) links_are ∙ link_own place (up_link (link.generation + 1)) old.proxy.links e.inside in
     let number : e.now.generation ≡ link.generation + 1 = ap (λ (s : SiteState). s.generation) e.back.all_else in
     let lost : e.now.lost ≡ e.site.lost = ap (λ (s : SiteState). s.lost) e.back.all_else in
-    let there : (i : ℕ) (w : WayState) → slice_get e.now.lost i ≡ Some w → slice_get e.site.lost i ≡ Some w = λ i w at. ap (λ (ws : List WayState). slice_get ws i) (sym lost) ∙ at in
+    let there : (i : ℕ) (w : StaleState) → slice_get e.now.lost i ≡ Some w → slice_get e.site.lost i ≡ Some w = λ i w at. ap (λ (ws : List StaleState). slice_get ws i) (sym lost) ∙ at in
     let same = was.same in
     let of : IsOfLink (up_link (link.generation + 1)) e.now = record {
       same = number;

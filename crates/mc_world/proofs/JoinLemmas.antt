@@ -33,7 +33,7 @@ use Rattle.mc_world.specs.LogHolds.{LogHolds, ServersHold}
 use Rattle.mc_world.specs.Logs.{HasJoined, IsRingAfter, Log}
 use Rattle.mc_world.specs.Pools.{PoolHolds}
 use Rattle.mc_world.specs.Sites.{SiteHolds}
-use Rattle.mc_world.specs.WorldState.{PoolState, SiteState, WayState, begun_of, histories_of}
+use Rattle.mc_world.specs.WorldState.{PoolState, SiteState, StaleState, begun_of, histories_of}
 use Rattle.mc_world.specs.Worlds.{CourseState, first_site, put_out_of, taken_by, text_of}
 use Rattle.mc_world.specs.declared.logs.Logged.TheVariants.{Happened, Joined, Restarted}
 use Rattle.mc_world.proofs.ConnectionLemmas.{connections_join}
@@ -118,7 +118,7 @@ ring_joined opening now next (Happened event ∷ es) server address joined h = r
 ring_joined opening now next (Joined other at ∷ es) server address joined h = (h.0, h.1, ring_joined h.0 now next es server address joined h.2)
 ring_joined opening now next (Restarted other ∷ es) server address joined h = ring_joined opening now next es server address joined h
 
-none_at : (i : ℕ) → ◌≡◌ {A = Option WayState} (slice_get [] i) None
+none_at : (i : ℕ) → ◌≡◌ {A = Option StaleState} (slice_get [] i) None
 none_at zero = refl
 none_at (suc i) = refl
 

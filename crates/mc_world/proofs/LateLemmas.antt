@@ -29,7 +29,7 @@ use Rattle.mc_history.specs.Generations.{is_good}
 use Rattle.mc_history.specs.Made.{Each, Made, commands_on, entry_of, read_as, taking_of}
 use Rattle.mc_history.specs.declared.entries.Entry.{Entry}
 use Rattle.mc_world.specs.Sites.{IsLiving, IsLostWay, SiteHolds, untaken_times}
-use Rattle.mc_world.specs.WorldState.{SiteState, WayState}
+use Rattle.mc_world.specs.WorldState.{SiteState, StaleState}
 use Rattle.mc_history.proofs.OutcomeLemmas.{replied_push}
 use Rattle.mc_world.proofs.CountLemmas.{untaken-set}
 use Rattle.mc_history.proofs.GenerationLemmas.{reads_others}
@@ -39,7 +39,7 @@ use Rattle.mc_world.proofs.SiteLemmas.{appended, commands_push_other, commands_p
 use Rattle.mc_history.specs.Named.{IsNamed, tags_made, times}
 
 -- what is in a list after one element is replaced
-pub get_set : (ways : List WayState) (i : ℕ) (way : WayState) (j : ℕ) (w : WayState) → slice_get (slice_set ways i way) j ≡ Some w
+pub get_set : (ways : List StaleState) (i : ℕ) (way : StaleState) (j : ℕ) (w : StaleState) → slice_get (slice_set ways i way) j ≡ Some w
     → ((j ≡ i) × (w ≡ way)) ⊎ ((j ≢ i) × (slice_get ways j ≡ Some w))
 get_set [] i way j w e = absurd (none-some w (sym (get_none j) ∙ e))
 get_set (x ∷ xs) zero way zero w e = inl (refl, sym (same_Some way w e))
@@ -51,23 +51,23 @@ get_set (x ∷ xs) (suc i) way (suc j) w e = elim (get_set xs i way j w e) [
 ]
 
 -- ways with connections of their own, after one is changed in something else
-abbrev AreApart : List WayState → Type 0
-AreApart ways = (i j : ℕ) (v w : WayState) → slice_get ways i ≡ Some v → slice_get ways j ≡ Some w → i ≢ j → v.connection ≢ w.connection
+abbrev AreApart : List StaleState → Type 0
+AreApart ways = (i j : ℕ) (v w : StaleState) → slice_get ways i ≡ Some v → slice_get ways j ≡ Some w → i ≢ j → v.connection ≢ w.connection
 
-apart_set : (ways : List WayState) (i : ℕ) (way now : WayState) → now.connection ≡ way.connection → slice_get ways i ≡ Some way → AreApart ways → AreApart (slice_set ways i now)
+apart_set : (ways : List StaleState) (i : ℕ) (way now : StaleState) → now.connection ≡ way.connection → slice_get ways i ≡ Some way → AreApart ways → AreApart (slice_set ways i now)
 apart_set ways i way now same at apart j k v w at_v at_w differ = elim (get_set ways i now j v at_v) [
   | inl a ↦ (elim (get_set ways i now k w at_w) [
     | inl b ↦ λ _. differ (a.0 ∙ sym b.0)
-    | inr b ↦ λ is. apart i k way w at b.1 (λ i_is. b.0 (sym i_is)) (sym same ∙ ap (λ (x : WayState). x.connection) (sym a.1) ∙ is)
+    | inr b ↦ λ is. apart i k way w at b.1 (λ i_is. b.0 (sym i_is)) (sym same ∙ ap (λ (x : StaleState). x.connection) (sym a.1) ∙ is)
   ])
   | inr a ↦ (elim (get_set ways i now k w at_w) [
-    | inl b ↦ λ is. apart j i v way a.1 at a.0 (is ∙ ap (λ (x : WayState). x.connection) b.1 ∙ same)
+    | inl b ↦ λ is. apart j i v way a.1 at a.0 (is ∙ ap (λ (x : StaleState). x.connection) b.1 ∙ same)
     | inr b ↦ apart j k v w a.1 b.1 differ
   ])
 ]
 
 -- the living generation, if something happens on another connection
-living_elsewhere : (place : ℕ) (order : Order) (lane : Lane) (all all' made made' : List Made) (texts texts' sent : ℕ → List ℕ) (site : SiteState) (server : ServerState) (history : List Entry) (lost : List WayState)
+living_elsewhere : (place : ℕ) (order : Order) (lane : Lane) (all all' made made' : List Made) (texts texts' sent : ℕ → List ℕ) (site : SiteState) (server : ServerState) (history : List Entry) (lost : List StaleState)
     → texts' site.connection ≡ texts site.connection → commands_on site.connection made' ≡ commands_on site.connection made → connection_at server site.connection ≡ connection_at site.server site.connection
     → ((t : Tag) → times t (tags_made all') + untaken_times t lost ≤ times t (tags_made all) + untaken_times t site.lost)
     → IsLiving place order lane all made texts sent site → IsLiving place order lane all' made' texts' sent (record site { server = server; history = history; lost = lost })
@@ -83,7 +83,7 @@ living_elsewhere place order lane all all' made made' texts texts' sent site ser
 }
 
 -- bytes of a lost generation arrive
-pub site_late_fed : (place : ℕ) (order : Order) (lane : Lane) (link : LinkState) (opening : CacheState) (site : SiteState) (server : ServerState) (i : ℕ) (way : WayState) (piece rest : List ℕ)
+pub site_late_fed : (place : ℕ) (order : Order) (lane : Lane) (link : LinkState) (opening : CacheState) (site : SiteState) (server : ServerState) (i : ℕ) (way : StaleState) (piece rest : List ℕ)
     → slice_get site.lost i ≡ Some way → way.going ≡ piece ++ rest → Steps way.connection site.server server (Feeds piece) → SiteHolds place order lane link opening site
     → SiteHolds place order lane link opening (record site { server = server; lost = slice_set site.lost i (record way { going = rest }) })
 site_late_fed place order lane link opening site server i way piece rest at going steps h =
@@ -121,20 +121,20 @@ site_late_fed place order lane link opening site server i way piece rest at goin
           living_elsewhere place order lane (h.past ++ h.made) (h.past ++ h.made) h.made h.made h.texts (grown way.connection piece h.texts) h.sent site server site.history (slice_set site.lost i (record way { going = rest }))
           (grown-other way.connection site.connection piece h.texts differ) refl (other_is way.connection site.connection site.server server (Feeds piece) steps differ) fewer (h.living up);
       lost = λ j w at_w. elim (get_set site.lost i (record way { going = rest }) j w at_w) [
-        | inl k ↦ subst (λ (x : WayState). IsLostWay place order h.made (grown way.connection piece h.texts) server x) (sym k.1) now
+        | inl k ↦ subst (λ (x : StaleState). IsLostWay place order h.made (grown way.connection piece h.texts) server x) (sym k.1) now
         | inr k ↦ (let differ = h.apart i j way w at k.1 (λ same. k.0 (sym same)) in
             lost_elsewhere place order h.made h.texts (grown way.connection piece h.texts) site.server server w (grown-other way.connection w.connection piece h.texts differ)
             (other_is way.connection w.connection site.server server (Feeds piece) steps differ) (h.lost j w k.1))
       ];
       apart = λ j k v w at_v at_w differ. apart_set site.lost i way (record way { going = rest }) refl at h.apart j k v w at_v at_w differ;
       apart_living = λ up j w at_w. elim (get_set site.lost i (record way { going = rest }) j w at_w) [
-        | inl k ↦ (λ same. h.apart_living up i way at (same ∙ ap (λ (x : WayState). x.connection) k.1))
+        | inl k ↦ (λ same. h.apart_living up i way at (same ∙ ap (λ (x : StaleState). x.connection) k.1))
         | inr k ↦ h.apart_living up j w k.1
       ];
     }
 
 -- a server takes a request of a lost generation: its tag was kept
-pub site_late_turned : (place : ℕ) (order : Order) (lane : Lane) (link : LinkState) (opening : CacheState) (site : SiteState) (server : ServerState) (moment : ℕ) (i : ℕ) (way : WayState) (tag : Tag) (tags : List Tag) (reply : List ℕ)
+pub site_late_turned : (place : ℕ) (order : Order) (lane : Lane) (link : LinkState) (opening : CacheState) (site : SiteState) (server : ServerState) (moment : ℕ) (i : ℕ) (way : StaleState) (tag : Tag) (tags : List Tag) (reply : List ℕ)
     → slice_get site.lost i ≡ Some way → way.untaken ≡ tag ∷ tags → (steps : Steps way.connection site.server server (IsTurn way.connection moment Took))
     → steps.after.output ≡ steps.before.output ++ reply → moment < 2 ^ 63 → SiteHolds place order lane link opening site
     → SiteHolds place order lane link opening (record site {
@@ -208,13 +208,13 @@ site_late_turned place order lane link opening site server moment i way tag tags
           living_elsewhere place order lane (h.past ++ h.made) (h.past ++ (h.made ++ m ∷ [])) h.made (h.made ++ m ∷ []) h.texts h.texts h.sent site server (site.history ++ entry_by tag moment steps.step.1.served.0 reply ∷ []) (slice_set site.lost i (record way { untaken = tags }))
           refl (commands_push_other site.connection h.made m differ) (other_is way.connection site.connection site.server server (IsTurn way.connection moment Took) steps differ) fewer (h.living up);
       lost = λ j w at_w. elim (get_set site.lost i (record way { untaken = tags }) j w at_w) [
-        | inl k ↦ subst (λ (x : WayState). IsLostWay place order (h.made ++ m ∷ []) h.texts server x) (sym k.1) now
+        | inl k ↦ subst (λ (x : StaleState). IsLostWay place order (h.made ++ m ∷ []) h.texts server x) (sym k.1) now
         | inr k ↦ (let differ = h.apart i j way w at k.1 (λ is. k.0 (sym is)) in
             lost_untouched place order h.made m h.texts site.server server w differ (other_is way.connection w.connection site.server server (IsTurn way.connection moment Took) steps differ) (h.lost j w k.1))
       ];
       apart = λ j k v w at_v at_w differ. apart_set site.lost i way (record way { untaken = tags }) refl at h.apart j k v w at_v at_w differ;
       apart_living = λ up j w at_w. elim (get_set site.lost i (record way { untaken = tags }) j w at_w) [
-        | inl k ↦ (λ is. h.apart_living up i way at (is ∙ ap (λ (x : WayState). x.connection) k.1))
+        | inl k ↦ (λ is. h.apart_living up i way at (is ∙ ap (λ (x : StaleState). x.connection) k.1))
         | inr k ↦ h.apart_living up j w k.1
       ];
     }
@@ -247,7 +247,7 @@ shift_past zero j same = omega (arith, same)
 shift_past (suc i) zero same = omega (arith, same)
 shift_past (suc i) (suc j) same = shift_past i j (omega (arith, same))
 
-pub get_removed : (ways : List WayState) (i j : ℕ) → slice_get (remove ways i) j ≡ slice_get ways (shift i j)
+pub get_removed : (ways : List StaleState) (i j : ℕ) → slice_get (remove ways i) j ≡ slice_get ways (shift i j)
 unfolding shift
 get_removed [] zero zero = refl
 get_removed [] zero (suc j) = refl
@@ -257,14 +257,14 @@ get_removed (w ∷ ws) zero j = refl
 get_removed (w ∷ ws) (suc i) zero = refl
 get_removed (w ∷ ws) (suc i) (suc j) = get_removed ws i j
 
-untaken-removed : (tag : Tag) (ways : List WayState) (i : ℕ) → untaken_times tag (remove ways i) ≤ untaken_times tag ways
+untaken-removed : (tag : Tag) (ways : List StaleState) (i : ℕ) → untaken_times tag (remove ways i) ≤ untaken_times tag ways
 untaken-removed tag [] zero = omega arith
 untaken-removed tag [] (suc i) = omega arith
 untaken-removed tag (w ∷ ws) zero = omega arith
 untaken-removed tag (w ∷ ws) (suc i) = omega (arith, untaken-removed tag ws i)
 
 -- a server sees the end of a lost generation
-pub site_ended : (place : ℕ) (order : Order) (lane : Lane) (link : LinkState) (opening : CacheState) (site : SiteState) (server : ServerState) (i : ℕ) (way : WayState)
+pub site_ended : (place : ℕ) (order : Order) (lane : Lane) (link : LinkState) (opening : CacheState) (site : SiteState) (server : ServerState) (i : ℕ) (way : StaleState)
     → slice_get site.lost i ≡ Some way → server ≡ record site.server { connections = closed way.connection site.server.connections } → connection_at server way.connection ≡ None
     → SiteHolds place order lane link opening site → SiteHolds place order lane link opening (record site { server = server; lost = remove site.lost i })
 site_ended place order lane link opening site server i way at closes not_open h =
@@ -272,7 +272,7 @@ site_ended place order lane link opening site server i way at closes not_open h 
     λ number differ. ap (λ (s : ServerState). connection_at s number) closes ∙ closed_other way.connection number site.server.connections differ in
     let fewer : (t : Tag) → times t (tags_made (h.past ++ h.made)) + untaken_times t (remove site.lost i) ≤ times t (tags_made (h.past ++ h.made)) + untaken_times t site.lost =
     λ t. omega (arith, untaken-removed t site.lost i) in
-    let was : (j : ℕ) (w : WayState) → slice_get (remove site.lost i) j ≡ Some w → slice_get site.lost (shift i j) ≡ Some w = λ j w at_w. sym (get_removed site.lost i j) ∙ at_w in
+    let was : (j : ℕ) (w : StaleState) → slice_get (remove site.lost i) j ≡ Some w → slice_get site.lost (shift i j) ≡ Some w = λ j w at_w. sym (get_removed site.lost i j) ∙ at_w in
     record {
       past = h.past;
       made = h.made;

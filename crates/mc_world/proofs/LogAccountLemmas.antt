@@ -23,7 +23,7 @@ use Rattle.mc_world.specs.CourseHolds.{HaveOneConnection, LivesHold}
 use Rattle.mc_world.specs.LogHolds.{AreOrdered, IsFresh, IsPlaced, LogHolds}
 use Rattle.mc_world.specs.Logs.{Log, before, number_of, puts, serves}
 use Rattle.mc_world.specs.Pools.{PoolHolds}
-use Rattle.mc_world.specs.WorldState.{PoolState, WayState, histories_of}
+use Rattle.mc_world.specs.WorldState.{PoolState, StaleState, histories_of}
 use Rattle.mc_world.proofs.CommandLemmas.{commands_accounted}
 use Rattle.mc_world.proofs.FollowLemmas.{followed}
 use Rattle.mc_world.proofs.LifeLemmas.{lives_legal}
@@ -69,7 +69,7 @@ log_begins opening pool h =
       commands = record {
         told = λ tag place atom outcome command known. absurd (none-some (to_place place atom) (sym (no_command tag) ∙ command));
         untaken = λ place i j site way tag at way_at tag_at.
-            absurd (none-some way (sym (none_at i) ∙ ap (λ (ways : List WayState). slice_get ways i) (sym (h.none_lost place site at)) ∙ way_at));
+            absurd (none-some way (sym (none_at i) ∙ ap (λ (ways : List StaleState). slice_get ways i) (sym (h.none_lost place site at)) ∙ way_at));
       };
     }
 

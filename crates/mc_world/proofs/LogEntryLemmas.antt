@@ -7,7 +7,7 @@ use Rattle.mc_link.specs.declared.turns.Tag.{Tag}
 use Rattle.mc_account.specs.Lookups.{asked_at}
 use Rattle.mc_account.specs.Orders.{Order, TakenRequest, entries_of}
 use Rattle.mc_account.proofs.OrderLemmas.{entries_push_other, entries_push_own}
-use Rattle.mc_world.specs.WorldState.{SiteState, WayState, begun_of, histories_of}
+use Rattle.mc_world.specs.WorldState.{SiteState, StaleState, begun_of, histories_of}
 
 -- an element of a list is inside it
 pub got_inside : {X : Type 0} (xs : List X) (k : ℕ) (x : X) → slice_get xs k ≡ Some x → k < length xs
@@ -128,10 +128,10 @@ history_still sites place site now at same other =
     (eqb_tells place other)
 
 -- a command of a lost generation that its server has not taken
-pub record HasUntaken (ways : List WayState) (tag : Tag) : Type 0 where
+pub record HasUntaken (ways : List StaleState) (tag : Tag) : Type 0 where
   pub i : ℕ
   pub j : ℕ
-  pub way : WayState
+  pub way : StaleState
   pub way_at : slice_get ways i ≡ Some way
   pub tag_at : slice_get way.untaken j ≡ Some tag
 
@@ -158,11 +158,11 @@ untaken_still sites place site now at fewer other tag h = elim (untaken_set site
 ]
 
 -- one generation has fewer of them, and one is gone
-pub untaken_fewer : (ways : List WayState) (i : ℕ) (way now : WayState) (tag : Tag) → slice_get ways i ≡ Some way
+pub untaken_fewer : (ways : List StaleState) (i : ℕ) (way now : StaleState) (tag : Tag) → slice_get ways i ≡ Some way
     → ((j : ℕ) → slice_get now.untaken j ≡ Some tag → (k : ℕ) × (slice_get way.untaken k ≡ Some tag)) → HasUntaken (slice_set ways i now) tag → HasUntaken ways tag
 untaken_fewer ways i way now tag at fewer h = elim (got_set ways i now h.i h.way h.way_at) [
   | inl k ↦ (
-      let old = fewer h.j (ap (λ (w : WayState). slice_get w.untaken h.j) (sym k.1) ∙ h.tag_at) in
+      let old = fewer h.j (ap (λ (w : StaleState). slice_get w.untaken h.j) (sym k.1) ∙ h.tag_at) in
       record { i = i; j = old.0; way = way; way_at = at; tag_at = old.1 })
   | inr k ↦ record { i = h.i; j = h.j; way = h.way; way_at = k.1; tag_at = h.tag_at }
 ]
@@ -176,5 +176,5 @@ got_kept (y ∷ ys) zero k x at = (suc k, at)
 got_kept (y ∷ ys) (suc i) zero x at = (0, at)
 got_kept (y ∷ ys) (suc i) (suc k) x at = let j = got_kept ys i k x at in (suc j.0, j.1)
 
-pub untaken_removed : (ways : List WayState) (i : ℕ) (tag : Tag) → HasUntaken (remove ways i) tag → HasUntaken ways tag
+pub untaken_removed : (ways : List StaleState) (i : ℕ) (tag : Tag) → HasUntaken (remove ways i) tag → HasUntaken ways tag
 untaken_removed ways i tag h = let k = got_kept ways i h.i h.way h.way_at in record { i = k.0; j = h.j; way = h.way; way_at = k.1; tag_at = h.tag_at }

@@ -16,7 +16,7 @@ use Rattle.mc_account.proofs.LaneLemmas.{link_other, link_own}
 use Rattle.mc_account.proofs.OpenSessions.{without_other}
 use Rattle.mc_world.specs.LogHolds.{LogHolds, ServersHold}
 use Rattle.mc_world.specs.Logs.{Log, moment_of, puts, turn_of, up_by}
-use Rattle.mc_world.specs.WorldState.{PoolState, SiteState, WayState, histories_of}
+use Rattle.mc_world.specs.WorldState.{PoolState, SiteState, StaleState, histories_of}
 use Rattle.mc_world.specs.declared.logs.Logged.{Logged}
 use Rattle.mc_world.proofs.LogCommandLemmas.{commands_still}
 use Rattle.mc_world.proofs.LogEntryLemmas.{HasUntaken, HasUntakenAt, history_still, untaken_still}
@@ -110,8 +110,8 @@ still_at old new place site now ring links open_ones at sites history untaken = 
 }
 
 -- the ways stay
-pub same_ways : (ways now : List WayState) → now ≡ ways → (tag : Tag) → HasUntaken now tag → HasUntaken ways tag
-same_ways ways now same tag h = subst (λ (ws : List WayState). HasUntaken ws tag) same h
+pub same_ways : (ways now : List StaleState) → now ≡ ways → (tag : Tag) → HasUntaken now tag → HasUntaken ways tag
+same_ways ways now same tag h = subst (λ (ws : List StaleState). HasUntaken ws tag) same h
 
 -- bytes that a session's client takes change nothing else of a proxy
 pub sent_ring : (client count : ℕ) (session : Option SessionState) (p : ProxyState) → (sent_by client count session p).ring ≡ p.ring

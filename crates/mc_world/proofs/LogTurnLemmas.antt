@@ -30,7 +30,7 @@ use Rattle.mc_world.specs.LogHolds.{AreOrdered, IsPlaced, LogHolds}
 use Rattle.mc_world.specs.Logs.{Log}
 use Rattle.mc_world.specs.Pools.{LateTurn, PoolHolds, PutsAnswer, ServerTakes, TakesRequest, asked_by}
 use Rattle.mc_world.specs.Sites.{SiteHolds}
-use Rattle.mc_world.specs.WorldState.{PoolState, SiteState, WayState, histories_of}
+use Rattle.mc_world.specs.WorldState.{PoolState, SiteState, StaleState, histories_of}
 use Rattle.mc_world.specs.declared.events.Event.TheVariants.{Emit, ProxyTurn, ServerTurn}
 use Rattle.mc_world.specs.declared.logs.Logged.TheVariants.{Happened}
 use Rattle.mc_world.proofs.LogCommandLemmas.{commands_serve, commands_still, outcome_taken}
@@ -149,7 +149,7 @@ log_server_takes ring opening texts sent order lanes outs log place generation m
     log_serves ring order outs log place generation (entry_of_tag e.tag moment e.enters.on.steps.step.1.served.0 e.enters.on.reply) old new e.proxy
     (served old new place e.there.site e.there.now (entry_of_tag e.tag moment e.enters.on.steps.step.1.served.0 e.enters.on.reply) e.there.at e.there.sites e.enters.on.history)
     (λ other tag has. untaken_still old.sites place e.there.site e.there.now e.there.at
-    (λ t k. subst (λ (ways : List WayState). HasUntaken ways t) (ap (λ (s : SiteState). s.lost) e.enters.all_else) k) other tag
+    (λ t k. subst (λ (ways : List StaleState). HasUntaken ways t) (ap (λ (s : SiteState). s.lost) e.enters.all_else) k) other tag
     (subst (λ (ss : List SiteState). HasUntakenAt ss other tag) e.there.sites has))
     (record { taken = waits.taken; answered = inr waits.unanswered })
     (λ j d at same. inr (inr (subst (λ (t : Tag). IsBefore (tag_in d) t) (sym tag_is)
@@ -168,7 +168,7 @@ log_late_turn opening order outs log place generation i moment old new e h =
     (served old new place e.there.site e.there.now (entry_of_tag e.enters.tag moment e.enters.on.steps.step.1.served.0 e.enters.on.reply) e.there.at e.there.sites e.enters.on.history)
     (λ other tag has. untaken_still old.sites place e.there.site e.there.now e.there.at
     (λ t k. untaken_fewer e.there.site.lost i e.enters.way (record e.enters.way { untaken = e.enters.tags }) t e.enters.way_at (λ j at. (suc j, ap (λ (ts : List Tag). slice_get ts (suc j)) e.enters.untaken ∙ at))
-    (subst (λ (ways : List WayState). HasUntaken ways t) (ap (λ (s : SiteState). s.lost) e.enters.all_else) k)) other tag
+    (subst (λ (ways : List StaleState). HasUntaken ways t) (ap (λ (s : SiteState). s.lost) e.enters.all_else) k)) other tag
     (subst (λ (ss : List SiteState). HasUntakenAt ss other tag) e.there.sites has))
     (record { taken = outcome_taken opening (length old.sites) order log e.enters.tag Lost h.requests untaken.lost; answered = inl untaken.lost })
     (λ j d at same. inr (inl untaken.lost))

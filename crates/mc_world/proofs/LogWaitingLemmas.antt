@@ -23,7 +23,7 @@ use Rattle.mc_world.specs.Accounts.{NotAnswered, WasLost, WasTaken, up_when_take
 use Rattle.mc_world.specs.LogHolds.{AnswersHold, CommandsHold, IsTold, IsUntaken, RequestsHold}
 use Rattle.mc_world.specs.Logs.{Log, loses, number_of, puts}
 use Rattle.mc_world.specs.Pools.{LosesLink, cut_off}
-use Rattle.mc_world.specs.WorldState.{PoolState, SiteState, WayState, histories_of}
+use Rattle.mc_world.specs.WorldState.{PoolState, SiteState, StaleState, histories_of}
 use Rattle.mc_world.specs.declared.events.Event.TheVariants.{LinkLost}
 use Rattle.mc_world.specs.declared.logs.Logged.TheVariants.{Happened}
 use Rattle.mc_world.proofs.LogCommandLemmas.{News, command_taken, commands_go, none_still, up_stays}
@@ -96,11 +96,11 @@ untaken_lost : (place : ℕ) (order : Order) (log : Log) (link : LinkState) (sit
     → ((index : ℕ) → slice_get (map (λ (w : Waiting). w.1) link.waiting) index ≡ Some tag → IsUntaken place order log tag)
     → HasUntaken (cut_off link site).lost tag → (HasUntaken site.lost tag) ⊎ (IsUntaken place order log tag)
 untaken_lost place order log link site tag waits h =
-    let way : WayState = record { generation = site.generation; connection = site.connection; going = link.output; untaken = drop site.ahead (map (λ (w : Waiting). w.1) link.waiting) } in
+    let way : StaleState = record { generation = site.generation; connection = site.connection; going = link.output; untaken = drop site.ahead (map (λ (w : Waiting). w.1) link.waiting) } in
     elim (got_pushed site.lost way h.i h.way h.way_at) [
       | inl k ↦ inl (record { i = h.i; j = h.j; way = h.way; way_at = k; tag_at = h.tag_at })
       | inr k ↦ (
-          let there : slice_get (drop site.ahead (map (λ (w : Waiting). w.1) link.waiting)) h.j ≡ Some tag = ap (λ (x : WayState). slice_get x.untaken h.j) (sym k.1) ∙ h.tag_at in
+          let there : slice_get (drop site.ahead (map (λ (w : Waiting). w.1) link.waiting)) h.j ≡ Some tag = ap (λ (x : StaleState). slice_get x.untaken h.j) (sym k.1) ∙ h.tag_at in
           inr (waits (h.j + site.ahead) (sym (get_past (map (λ (w : Waiting). w.1) link.waiting) site.ahead h.j) ∙ there)))
     ]
 

@@ -19,7 +19,7 @@ use Rattle.mc_history.specs.declared.entries.Entry.{Entry}
 use Rattle.mc_cache_laws.specs.GoodCaches.{IsGoodCache}
 use Rattle.mc_world.specs.Restarts.{restarted}
 use Rattle.mc_world.specs.Sites.{IsLostWay, SiteHolds}
-use Rattle.mc_world.specs.WorldState.{SiteState, WayState}
+use Rattle.mc_world.specs.WorldState.{SiteState, StaleState}
 use Rattle.mc_history.proofs.MadeLemmas.{taken_on}
 use Rattle.mc_history.proofs.OutcomeLemmas.{NoNews, replied_kept}
 use Rattle.mc_world.proofs.CountLemmas.{untaken-push}
@@ -29,7 +29,7 @@ use Rattle.mc_world.proofs.SiteLemmas.{get_none, good_since, tags_wait}
 use Rattle.mc_history.specs.Named.{IsNamed, tags_made, tags_of, times}
 
 -- an element of a list with one more at its end
-pub get_pushed : (ways : List WayState) (way : WayState) (i : ℕ) (w : WayState) → slice_get (ways ++ way ∷ []) i ≡ Some w
+pub get_pushed : (ways : List StaleState) (way : StaleState) (i : ℕ) (w : StaleState) → slice_get (ways ++ way ∷ []) i ≡ Some w
     → (slice_get ways i ≡ Some w) ⊎ ((i ≡ length ways) × (w ≡ way))
 get_pushed [] way zero w e = inr (refl, sym (same_Some way w e))
 get_pushed [] way (suc i) w e = absurd (none-some w (sym (get_none i) ∙ e))
@@ -64,7 +64,7 @@ pub site_lost : (place : ℕ) (order order' : Order) (lane : Lane) (link link' :
 site_lost place order order' lane link link' opening site generation up down keeps news commands holds h =
     let living = h.living up in
     let same_times : (t : Tag) → times t (tags_of (commands_to place order')) ≡ times t (tags_of (commands_to place order)) = λ t. ap (λ (cs : List Tagged). times t (tags_of cs)) commands in
-    let way : WayState = record { generation = generation; connection = site.connection; going = link.output; untaken = drop site.ahead (map (λ (w : Waiting). w.1) link.waiting) } in
+    let way : StaleState = record { generation = generation; connection = site.connection; going = link.output; untaken = drop site.ahead (map (λ (w : Waiting). w.1) link.waiting) } in
     let sent : commands_of_lane place order lane ≡ commands_on site.connection h.made ++ living.others = living.commands in
     let own : IsLostWay place order h.made h.texts site.server way = record {
       end = living.end;
@@ -99,15 +99,15 @@ site_lost place order order' lane link link' opening site generation up down kee
       living = λ is. absurd (down is);
       lost = λ i w at. elim (get_pushed site.lost way i w at) [
         | inl k ↦ lost_kept place order order' h.made h.texts site.server w keeps (h.lost i w k)
-        | inr k ↦ lost_kept place order order' h.made h.texts site.server w keeps (subst (λ (x : WayState). IsLostWay place order h.made h.texts site.server x) (sym k.1) own)
+        | inr k ↦ lost_kept place order order' h.made h.texts site.server w keeps (subst (λ (x : StaleState). IsLostWay place order h.made h.texts site.server x) (sym k.1) own)
       ];
       apart = λ i j v w at_v at_w differ. elim (get_pushed site.lost way i v at_v) [
         | inl k ↦ (elim (get_pushed site.lost way j w at_w) [
           | inl l ↦ h.apart i j v w k l differ
-          | inr l ↦ λ same. h.apart_living up i v k (sym (same ∙ ap (λ (x : WayState). x.connection) l.1))
+          | inr l ↦ λ same. h.apart_living up i v k (sym (same ∙ ap (λ (x : StaleState). x.connection) l.1))
         ])
         | inr k ↦ (elim (get_pushed site.lost way j w at_w) [
-          | inl l ↦ λ same. h.apart_living up j w l (sym (ap (λ (x : WayState). x.connection) k.1) ∙ same)
+          | inl l ↦ λ same. h.apart_living up j w l (sym (ap (λ (x : StaleState). x.connection) k.1) ∙ same)
           | inr l ↦ λ same. differ (k.0 ∙ sym l.0)
         ])
       ];
@@ -133,7 +133,7 @@ pub site_back : (place : ℕ) (order : Order) (lane : Lane) (link link' : LinkSt
 site_back place order lane link link' opening site generation closed h =
     let unused = h.server.unused site.server.admitted (omega arith) in
     let none = none_made opening h.made h.texts h.sent site.server h.server in
-    let differs : (i : ℕ) (way : WayState) → slice_get site.lost i ≡ Some way → site.server.admitted ≢ way.connection =
+    let differs : (i : ℕ) (way : StaleState) → slice_get site.lost i ≡ Some way → site.server.admitted ≢ way.connection =
     λ i way at. let w = h.lost i way at in let below = given opening h.texts h.sent (map taking_of h.made) site.server way.connection w.end h.server w.is_open in λ same. omega (arith, below, same) in
     record {
       past = h.past;

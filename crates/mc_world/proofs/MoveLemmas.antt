@@ -26,7 +26,7 @@ use Rattle.std.proofs.lemmas.Option.{none-some, same_Some}
 use Rattle.mc_history.specs.declared.entries.Entry.{Entry}
 use Rattle.mc_history.proofs.OutcomeLemmas.{NoNews, entry_made, in_made, named_made, news_push, replied_kept}
 use Rattle.mc_world.specs.Sites.{IsLostWay, SiteHolds}
-use Rattle.mc_world.specs.WorldState.{SiteState, WayState}
+use Rattle.mc_world.specs.WorldState.{SiteState, StaleState}
 use Rattle.mc_route.specs.Routes.{to_place}
 use Rattle.mc_world.proofs.CountLemmas.{times-tags}
 use Rattle.mc_history.proofs.GenerationLemmas.{carried}
@@ -36,7 +36,7 @@ use Rattle.mc_account.specs.Lookups.{command_at, outcome_at}
 use Rattle.mc_history.specs.Named.{IsNamed, tags_of, times}
 
 -- a lost way, when the order goes on
-pub lost_kept : (place : ℕ) (order longer : Order) (made : List Made) (texts : ℕ → List ℕ) (server : ServerState) (way : WayState) → Keeps order longer
+pub lost_kept : (place : ℕ) (order longer : Order) (made : List Made) (texts : ℕ → List ℕ) (server : ServerState) (way : StaleState) → Keeps order longer
     → IsLostWay place order made texts server way → IsLostWay place longer made texts server way
 lost_kept place order longer made texts server way keeps h = record {
   end = h.end;

@@ -30,7 +30,7 @@ use Rattle.mc_world.specs.Courses.{Applies}
 use Rattle.mc_world.specs.CourseHolds.{CourseHolds}
 use Rattle.mc_world.specs.Logs.{number_of, puts, takes}
 use Rattle.mc_world.specs.Runs.{Call, Calls}
-use Rattle.mc_world.specs.WorldState.{PoolState, SiteState, WayState}
+use Rattle.mc_world.specs.WorldState.{PoolState, SiteState, StaleState}
 use Rattle.mc_world.specs.Worlds.{CourseState, taken_by, text_of, world_opened}
 use Rattle.mc_world.specs.declared.events.Event.{Event}
 use Rattle.mc_world.specs.declared.events.Event.TheVariants.{ClientTakes, Emit, ProxyTurn, ReplyTurn, ServerSeesEnd, ServerTurn, ToProxy, ToServer}
@@ -146,8 +146,8 @@ lost_none pool place site stuck at =
     (elim site.lost as (λ ways. site.lost ≡ ways → ways ≡ []) [
       | [] ↦ λ e. refl
       | way ∷ ways ↦ λ e.
-          let zeroth : position_or_len (λ (w : WayState). w.generation == way.generation) (way ∷ ways) ≡ 0 =
-          position_or_len_is (λ (w : WayState). w.generation == way.generation) (way ∷ ways) 0 way (omega arith) (λ k below. absurd (omega (arith, below))) (λ inside. own_number way.generation) in
+          let zeroth : position_or_len (λ (w : StaleState). w.generation == way.generation) (way ∷ ways) ≡ 0 =
+          position_or_len_is (λ (w : StaleState). w.generation == way.generation) (way ∷ ways) 0 way (omega arith) (λ k below. absurd (omega (arith, below))) (λ inside. own_number way.generation) in
           let first : way_of way.generation (way ∷ ways) ≡ Some 0 =
           ap (λ (n : ℕ). cond (nat_lt n (length (way ∷ ways))) (Some n) None) zeroth
           ∙ ap (λ (v : Bool). cond v (Some 0) None) (lt-ltb 0 (length (way ∷ ways)) (omega arith)) in
@@ -155,9 +155,9 @@ lost_none pool place site stuck at =
             site = site;
             at = at;
             i = 0;
-            first = ap (λ (ws : List WayState). way_of way.generation ws) e ∙ first;
+            first = ap (λ (ws : List StaleState). way_of way.generation ws) e ∙ first;
             way = way;
-            way_at = ap (λ (ws : List WayState). slice_get ws 0) e;
+            way_at = ap (λ (ws : List StaleState). slice_get ws 0) e;
           }))
     ]) refl
 

@@ -17,7 +17,7 @@ use Rattle.mc_world.specs.Courses.{Applies}
 use Rattle.mc_world.specs.CourseHolds.{CourseHolds}
 use Rattle.mc_world.specs.Logs.{Log, number_of, puts, takes}
 use Rattle.mc_world.specs.Quiet.{IsQuiet, is_inner}
-use Rattle.mc_world.specs.WorldState.{PoolState, SiteState, WayState}
+use Rattle.mc_world.specs.WorldState.{PoolState, SiteState, StaleState}
 use Rattle.mc_world.specs.Worlds.{CourseState}
 use Rattle.mc_world.specs.declared.acts.Act.TheVariants.{SeeEnd}
 use Rattle.mc_world.specs.declared.events.Event.{Event}
@@ -34,12 +34,12 @@ own_lives : (pool : PoolState) (place : ℕ) (site : SiteState) → slice_get po
 own_lives pool place site at up = record { site = site; at = at; is = sym (ap generation_of at); up = up }
 
 -- the first of the lost generations is the first of its number
-pub first_lost : (pool : PoolState) (place : ℕ) (site : SiteState) (way : WayState) (ways : List WayState) → slice_get pool.sites place ≡ Some site → site.lost ≡ way ∷ ways
+pub first_lost : (pool : PoolState) (place : ℕ) (site : SiteState) (way : StaleState) (ways : List StaleState) → slice_get pool.sites place ≡ Some site → site.lost ≡ way ∷ ways
     → HasLost place (lost_of (slice_get pool.sites place)) pool
 first_lost pool place site way ways at is =
-    let number : lost_of (slice_get pool.sites place) ≡ way.generation = ap lost_of at ∙ ap (λ (ws : List WayState). lost_of (Some (record site { lost = ws }))) is in
-    let zeroth : position_or_len (λ (w : WayState). w.generation == way.generation) (way ∷ ways) ≡ 0 =
-    position_or_len_is (λ (w : WayState). w.generation == way.generation) (way ∷ ways) 0 way (omega arith) (λ k below. absurd (omega (arith, below))) (λ inside. own_number way.generation) in
+    let number : lost_of (slice_get pool.sites place) ≡ way.generation = ap lost_of at ∙ ap (λ (ws : List StaleState). lost_of (Some (record site { lost = ws }))) is in
+    let zeroth : position_or_len (λ (w : StaleState). w.generation == way.generation) (way ∷ ways) ≡ 0 =
+    position_or_len_is (λ (w : StaleState). w.generation == way.generation) (way ∷ ways) 0 way (omega arith) (λ k below. absurd (omega (arith, below))) (λ inside. own_number way.generation) in
     let first : way_of way.generation (way ∷ ways) ≡ Some 0 =
     ap (λ (n : ℕ). cond (nat_lt n (length (way ∷ ways))) (Some n) None) zeroth
     ∙ ap (λ (v : Bool). cond v (Some 0) None) (lt-ltb 0 (length (way ∷ ways)) (omega arith)) in
@@ -47,9 +47,9 @@ first_lost pool place site way ways at is =
       site = site;
       at = at;
       i = 0;
-      first = ap (λ (n : ℕ). way_of n site.lost) number ∙ ap (λ (ws : List WayState). way_of way.generation ws) is ∙ first;
+      first = ap (λ (n : ℕ). way_of n site.lost) number ∙ ap (λ (ws : List StaleState). way_of way.generation ws) is ∙ first;
       way = way;
-      way_at = ap (λ (ws : List WayState). slice_get ws 0) is;
+      way_at = ap (λ (ws : List StaleState). slice_get ws 0) is;
     }
 
 -- no lost generation is left
@@ -57,7 +57,7 @@ none_lost : (moment : ℕ) (c : CourseState) → NoServer moment SeeEnd c → (p
 none_lost moment c rested place generation lost =
     let inside = got_inside c.pool.sites place lost.site lost.at in
     (elim lost.site.lost as (λ ways. lost.site.lost ≡ ways → ⊥) [
-      | [] ↦ λ e. let none : ◌≡◌ {A = Option WayState} None (Some lost.way) = sym (get_none lost.i) ∙ ap (λ (ws : List WayState). slice_get ws lost.i) (sym e) ∙ lost.way_at in absurd cc
+      | [] ↦ λ e. let none : ◌≡◌ {A = Option StaleState} None (Some lost.way) = sym (get_none lost.i) ∙ ap (λ (ws : List StaleState). slice_get ws lost.i) (sym e) ∙ lost.way_at in absurd cc
       | way ∷ ways ↦ λ e. rested place inside (first_lost c.pool place lost.site way ways lost.at e)
     ]) refl
 

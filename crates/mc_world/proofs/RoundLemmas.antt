@@ -7,7 +7,7 @@ use Rattle.mc_world.specs.Courses.{Happens}
 use Rattle.mc_world.specs.Drains.{AreDone, is_of_drain}
 use Rattle.mc_world.specs.Pools.{AtSite}
 use Rattle.mc_world.specs.Rounds.{InOrder, Until}
-use Rattle.mc_world.specs.WorldState.{PoolState, SiteState, WayState}
+use Rattle.mc_world.specs.WorldState.{PoolState, SiteState, StaleState}
 use Rattle.mc_world.specs.Worlds.{CourseState, WorldState}
 use Rattle.mc_world.specs.declared.acts.Act.TheVariants.{SeeEnd}
 use Rattle.mc_world.specs.declared.events.Event.{Event}
@@ -46,9 +46,9 @@ abbrev pub HasNoLost : ℕ → PoolState → Type 0
 HasNoLost place pool = (site : SiteState) → slice_get pool.sites place ≡ Some site → site.lost ≡ []
 
 -- an empty list
-nothing_there : (ways : List WayState) (i : ℕ) (way : WayState) → ways ≡ [] → slice_get ways i ≡ Some way → ⊥
+nothing_there : (ways : List StaleState) (i : ℕ) (way : StaleState) → ways ≡ [] → slice_get ways i ≡ Some way → ⊥
 nothing_there ways i way none at =
-    let clash : ◌≡◌ {A = Option WayState} None (Some way) = sym (get_none i) ∙ ap (λ (ws : List WayState). slice_get ws i) (sym none) ∙ at in
+    let clash : ◌≡◌ {A = Option StaleState} None (Some way) = sym (get_none i) ∙ ap (λ (ws : List StaleState). slice_get ws i) (sym none) ∙ at in
     absurd cc
 
 -- the sites stay; and that of one place is another

@@ -29,7 +29,7 @@ use Rattle.mc_history.proofs.GenerationLemmas.{carried, not_nothing, reads_other
 use Rattle.mc_world.specs.CourseHolds.{CourseHolds}
 use Rattle.mc_world.specs.Serving.{PoolServes, ServesProxy, SiteServes}
 use Rattle.mc_world.specs.Sites.{SiteHolds}
-use Rattle.mc_world.specs.WorldState.{SiteState, WayState}
+use Rattle.mc_world.specs.WorldState.{SiteState, StaleState}
 use Rattle.mc_world.specs.Worlds.{CourseState}
 use Rattle.mc_world.proofs.SiteLemmas.{joined, next_is}
 
@@ -140,11 +140,11 @@ living_serves place order lane link opening site up h holds =
     }
 
 -- what holds of a lost generation
-record LostServes (site : SiteState) (way : WayState) : Type 0 where
+record LostServes (site : SiteState) (way : StaleState) : Type 0 where
   pub serves : ServesProxy way.connection site.server
   pub untaken : 0 < length (waiting_of (connection_at site.server way.connection)) → 0 < length way.untaken
 
-lost_serves : (place : ℕ) (order : Order) (lane : Lane) (link : LinkState) (opening : CacheState) (site : SiteState) (i : ℕ) (way : WayState) → slice_get site.lost i ≡ Some way
+lost_serves : (place : ℕ) (order : Order) (lane : Lane) (link : LinkState) (opening : CacheState) (site : SiteState) (i : ℕ) (way : StaleState) → slice_get site.lost i ≡ Some way
     → SiteHolds place order lane link opening site → LostServes site way
 lost_serves place order lane link opening site i way at h =
     let own = h.lost i way at in

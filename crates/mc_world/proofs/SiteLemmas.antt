@@ -29,7 +29,7 @@ use Rattle.mc_history.specs.Generations.{AreJoined, commands_of_lane, is_good}
 use Rattle.mc_history.specs.Made.{Each, IsMade, Made, commands_on, entry_of, made_on, read_as, taking_of}
 use Rattle.mc_history.specs.declared.entries.Entry.{Entry}
 use Rattle.mc_world.specs.Sites.{IsLostWay, SiteHolds}
-use Rattle.mc_world.specs.WorldState.{SiteState, WayState}
+use Rattle.mc_world.specs.WorldState.{SiteState, StaleState}
 use Rattle.mc_world.proofs.CountLemmas.{times-made}
 use Rattle.mc_history.proofs.GenerationLemmas.{carried}
 use Rattle.mc_history.proofs.OutcomeLemmas.{replied_push}
@@ -45,7 +45,7 @@ other_is number other old new Step steps differ =
     ap (λ (cs : List (ℕ × ConnectionState)). connection_at (record new { connections = cs }) other) steps.is ∙ updated_other number other steps.after old.connections differ
 
 -- the way of another connection is as it was
-pub lost_elsewhere : (place : ℕ) (order : Order) (made : List Made) (texts texts' : ℕ → List ℕ) (old new : ServerState) (way : WayState) → texts' way.connection ≡ texts way.connection
+pub lost_elsewhere : (place : ℕ) (order : Order) (made : List Made) (texts texts' : ℕ → List ℕ) (old new : ServerState) (way : StaleState) → texts' way.connection ≡ texts way.connection
     → connection_at new way.connection ≡ connection_at old way.connection → IsLostWay place order made texts old way → IsLostWay place order made texts' new way
 lost_elsewhere place order made texts texts' old new way same is h = grind arith
 
@@ -101,7 +101,7 @@ pub commands_push_other : (number : ℕ) (made : List Made) (m : Made) → m.con
 commands_push_other number made m differ = grind (arith, append-nil, other_number, made_on-append)
 
 -- the way of another connection, after one more was made
-pub lost_untouched : (place : ℕ) (order : Order) (made : List Made) (m : Made) (texts : ℕ → List ℕ) (old new : ServerState) (way : WayState) → m.connection ≢ way.connection
+pub lost_untouched : (place : ℕ) (order : Order) (made : List Made) (m : Made) (texts : ℕ → List ℕ) (old new : ServerState) (way : StaleState) → m.connection ≢ way.connection
     → connection_at new way.connection ≡ connection_at old way.connection → IsLostWay place order made texts old way → IsLostWay place order (made ++ m ∷ []) texts new way
 lost_untouched place order made m texts old new way differ is h = grind (arith, commands_push_other)
 

@@ -20,7 +20,7 @@ use Rattle.mc_history.specs.declared.entries.Entry.{Entry}
 use Rattle.mc_history.proofs.RefusalLemmas.{line_of_told, told_by_line}
 use Rattle.mc_world.specs.Happens.{Enters, EntersLate, EntersOn, entry_of_tag}
 use Rattle.mc_world.specs.Serving.{IsSpelled, ServesProxy}
-use Rattle.mc_world.specs.WorldState.{SiteState, WayState}
+use Rattle.mc_world.specs.WorldState.{SiteState, StaleState}
 use Rattle.mc_world.proofs.SiteLemmas.{same_end, taking_by}
 
 -- the output of the connection before a step, and after it
@@ -100,7 +100,8 @@ first_of : (tags : List Tag) (tag : Tag) → slice_get tags 0 ≡ Some tag → t
 first_of [] tag is = absurd (none-some tag is)
 first_of (t ∷ ts) tag is = ap (λ (x : Tag). x ∷ ts) (same_Some t tag is)
 
-pub entered_late : (i moment : ℕ) (tag : Tag) (old : SiteState) (server : ServerState) (history : List Entry) (way : WayState) → slice_get old.lost i ≡ Some way
+pub entered_late : (i moment : ℕ) (tag : Tag) (old : SiteState) (server : ServerState) (history : List Entry) (way : StaleState)
+    → slice_get old.lost i ≡ Some way
     → slice_get way.untaken 0 ≡ Some tag → EntersOn way.connection moment tag old.server server old.history history
     → EntersLate i moment old (record old { server = server; history = history; lost = slice_set old.lost i (record way { untaken = drop 1 way.untaken }) })
 entered_late i moment tag old server history way at next h = record {
@@ -122,5 +123,5 @@ late_site i moment old new e =
     e.all_else ∙ ap (λ (es : List Entry). record old { server = new.server; history = es; lost = slice_set old.lost i (record e.way { untaken = e.tags }) }) e.on.history
 
 -- what holds of the way at an index
-pub said_of_way : (P : WayState → Type 0) (ways : List WayState) (i : ℕ) (own : WayState) → slice_get ways i ≡ Some own → P own → (way : WayState) → slice_get ways i ≡ Some way → P way
+pub said_of_way : (P : StaleState → Type 0) (ways : List StaleState) (i : ℕ) (own : StaleState) → slice_get ways i ≡ Some own → P own → (way : StaleState) → slice_get ways i ≡ Some way → P way
 said_of_way P ways i own at holds way also = subst P (same_Some own way (sym at ∙ also)) holds

@@ -15,7 +15,7 @@ use Rattle.mc_proxy.specs.SessionState.{SessionState, Unanswered, link_at, with_
 use Rattle.mc_proxy.specs.Noting.{noted}
 use Rattle.mc_proxy.specs.ProxyState.{Sessions, session_in, updated}
 use Rattle.mc_world.specs.WorkLeft.{moves_of, work_left, work_of_link, work_of_session, work_of_sessions, work_of_site, work_of_sites, work_of_ways, work_on}
-use Rattle.mc_world.specs.WorldState.{PoolState, SiteState, WayState}
+use Rattle.mc_world.specs.WorldState.{PoolState, SiteState, StaleState}
 
 -- bytes are one move at most; they are one if there are some, and none once all are moved
 pub moves_most : (xs : List ℕ) → moves_of xs ≤ 1
@@ -112,15 +112,15 @@ sites_handed session request at [] links sites = omega arith
 sites_handed session request at (c ∷ cs) links sites = grind (arith, one_handed, sites_handed session request (suc at) cs)
 
 -- lost generations: one has ended; a command of one was taken
-pub ways_removed : (ways : List WayState) (i : ℕ) (way : WayState) → slice_get ways i ≡ Some way → work_of_ways (remove ways i) < work_of_ways ways
+pub ways_removed : (ways : List StaleState) (i : ℕ) (way : StaleState) → slice_get ways i ≡ Some way → work_of_ways (remove ways i) < work_of_ways ways
 ways_removed [] i way at = absurd cc
 ways_removed (w ∷ ws) zero way at = omega arith
 ways_removed (w ∷ ws) (suc i) way at = omega (arith, ways_removed ws i way at)
 
-pub ways_changed : (ways : List WayState) (i : ℕ) (way now : WayState) → slice_get ways i ≡ Some way
+pub ways_changed : (ways : List StaleState) (i : ℕ) (way now : StaleState) → slice_get ways i ≡ Some way
     → work_of_ways (slice_set ways i now) + length way.untaken ≡ work_of_ways ways + length now.untaken
 ways_changed [] i way now at = absurd cc
-ways_changed (w ∷ ws) zero way now at = let same : length w.untaken ≡ length way.untaken = ap (λ (x : WayState). length x.untaken) (same_Some w way at) in omega (arith, same)
+ways_changed (w ∷ ws) zero way now at = let same : length w.untaken ≡ length way.untaken = ap (λ (x : StaleState). length x.untaken) (same_Some w way at) in omega (arith, same)
 ways_changed (w ∷ ws) (suc i) way now at = omega (arith, ways_changed ws i way now at)
 
 -- what is left, by parts

@@ -6,7 +6,7 @@ use Rattle.mc_proxy.specs.ProxyState.{output_of as output_at, session_at}
 use Rattle.mc_world.specs.Courses.{Applies}
 use Rattle.mc_world.specs.Drains.{Drains}
 use Rattle.mc_world.specs.WorkLeft.{work_left}
-use Rattle.mc_world.specs.WorldState.{PoolState, SiteState, WayState}
+use Rattle.mc_world.specs.WorldState.{PoolState, SiteState, StaleState}
 use Rattle.mc_world.specs.Worlds.{CourseState, WorldState}
 use Rattle.mc_world.specs.declared.acts.Act.{Act}
 use Rattle.mc_world.specs.declared.acts.Act.TheVariants.{PutAnswer, ReachProxy, ReachServer, SeeEnd, Serve, TakeBytes, TakeReply, TakeRequest}
@@ -19,7 +19,7 @@ abbrev pub generation_of : Option SiteState → ℕ
 generation_of None = 0
 generation_of (Some site) = site.generation
 
-abbrev pub number_of : Option WayState → ℕ
+abbrev pub number_of : Option StaleState → ℕ
 number_of None = 0
 number_of (Some way) = way.generation
 

@@ -8,7 +8,7 @@ use Rattle.mc_server.specs.declared.servers.TheConstants.{MAX_CONNECTIONS}
 use Rattle.mc_proxy.specs.SessionState.{link_at}
 use Rattle.mc_proxy.specs.ProxyState.{output_of as output_at, session_at}
 use Rattle.mc_proxy.specs.Turns.{CanTurn, HasAnswer}
-use Rattle.mc_world.specs.WorldState.{PoolState, SiteState, WayState}
+use Rattle.mc_world.specs.WorldState.{PoolState, SiteState, StaleState}
 
 -- bytes can be moved: some exist, and some are asked for
 abbrev pub CanMove : ℕ → List ℕ → Type 0
@@ -72,7 +72,7 @@ pub record CanReturn (place : ℕ) (pool : PoolState) : Type 0 where
   pub admits : CanAdmit site.server
 
 -- the index of a lost generation among those that are not ended: the first of its number
-abbrev pub way_of : ℕ → List WayState → Option ℕ
+abbrev pub way_of : ℕ → List StaleState → Option ℕ
 way_of generation ways = position (λ way. way.generation == generation) ways
 
 -- a server has a lost generation of this number whose end it has not seen
@@ -81,7 +81,7 @@ pub record HasLost (place generation : ℕ) (pool : PoolState) : Type 0 where
   pub at : slice_get pool.sites place ≡ Some site
   pub i : ℕ
   pub first : way_of generation site.lost ≡ Some i
-  pub way : WayState
+  pub way : StaleState
   pub way_at : slice_get site.lost i ≡ Some way
 
 -- bytes of it arrive: some are on their way

@@ -10,15 +10,15 @@ use Rattle.mc_history.specs.Histories.{IsLegal}
 use Rattle.mc_world.specs.LogHolds.{LogHolds}
 use Rattle.mc_world.specs.Logs.{Log, in_life, loses, number_of, restarts, taken_before}
 use Rattle.mc_world.specs.Pools.{PoolHolds}
-use Rattle.mc_world.specs.WorldState.{IsRising, PoolState, SiteState, WayState, begun_of, histories_of}
+use Rattle.mc_world.specs.WorldState.{IsRising, PoolState, SiteState, StaleState, begun_of, histories_of}
 use Rattle.mc_world.specs.Worlds.{CourseState, WorldState, put_out_of, taken_by, text_of}
 
 -- A site is of the generation of its link. Its lost generations rise up to that, and are below it while it lives.
 pub record IsOfLink (link : LinkState) (site : SiteState) : Type 0 where
   pub same : site.generation ≡ link.generation
   pub rising : IsRising site.lost
-  pub most : (i : ℕ) (way : WayState) → slice_get site.lost i ≡ Some way → way.generation ≤ site.generation
-  pub below : link.up ≡ true → (i : ℕ) (way : WayState) → slice_get site.lost i ≡ Some way → way.generation < site.generation
+  pub most : (i : ℕ) (way : StaleState) → slice_get site.lost i ≡ Some way → way.generation ≤ site.generation
+  pub below : link.up ≡ true → (i : ℕ) (way : StaleState) → slice_get site.lost i ≡ Some way → way.generation < site.generation
 
 -- each site is of the generation of its link
 abbrev pub HaveOneGeneration : PoolState → Type 0

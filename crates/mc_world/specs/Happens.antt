@@ -4,7 +4,7 @@ use Rattle.mc_link.specs.declared.turns.Tag.{Tag}
 use Rattle.mc_server.specs.ServerState.{ServerState, closed, connection_at, sent_by, with_fresh}
 use Rattle.mc_server.specs.Turns.{Feeds, IsTurn, Steps}
 use Rattle.mc_server.specs.declared.turns.Turn.TheVariants.{Took}
-use Rattle.mc_world.specs.WorldState.{SiteState, WayState}
+use Rattle.mc_world.specs.WorldState.{SiteState, StaleState}
 use Rattle.mc_world.specs.declared.errors.Step.{Step}
 use Rattle.mc_world.specs.declared.errors.Step.TheVariants.{Done, Nothing}
 use Rattle.mc_history.specs.declared.entries.Entry.{Entry}
@@ -53,14 +53,14 @@ pub record Enters (moment : ℕ) (tag : Tag) (old new : SiteState) : Type 0 wher
 
 -- bytes of a lost generation arrive at the server, the first of those on their way
 pub record ArrivesLate (i count : ℕ) (old new : SiteState) : Type 0 where
-  pub way : WayState
+  pub way : StaleState
   pub way_at : slice_get old.lost i ≡ Some way
   pub steps : Steps way.connection old.server new.server (Feeds (take count way.going))
   pub all_else : new ≡ record old { server = new.server; lost = slice_set old.lost i (record way { going = drop count way.going }) }
 
 -- the server takes a request of a lost generation: that of its first command that was not taken
 pub record EntersLate (i moment : ℕ) (old new : SiteState) : Type 0 where
-  pub way : WayState
+  pub way : StaleState
   pub tag : Tag
   pub tags : List Tag
   pub way_at : slice_get old.lost i ≡ Some way
@@ -70,7 +70,7 @@ pub record EntersLate (i moment : ℕ) (old new : SiteState) : Type 0 where
 
 -- the server sees the end of a lost generation: its connection is closed, and its bytes are dropped
 pub record Ends (i : ℕ) (old new : SiteState) : Type 0 where
-  pub way : WayState
+  pub way : StaleState
   pub way_at : slice_get old.lost i ≡ Some way
   pub closes : new.server ≡ record old.server { connections = closed way.connection old.server.connections }
   pub not_open : connection_at new.server way.connection ≡ None

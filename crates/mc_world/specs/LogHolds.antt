@@ -15,7 +15,7 @@ use Rattle.mc_history.specs.Histories.{tag_in}
 use Rattle.mc_history.specs.declared.entries.Entry.{Entry}
 use Rattle.mc_world.specs.Accounts.{IsToldLost, NotAnswered, WasTaken, up_when_taken}
 use Rattle.mc_world.specs.Logs.{IsRingAfter, Log, before, is_up, moments_of, number_of, puts, serves, takes, turns_of}
-use Rattle.mc_world.specs.WorldState.{PoolState, SiteState, WayState, histories_of}
+use Rattle.mc_world.specs.WorldState.{PoolState, SiteState, StaleState, histories_of}
 
 -- the outcome of a command, as a log shows it: an awaited command was sent on a link that was up; for a lost one the log shows the
 -- cause
@@ -75,7 +75,7 @@ pub record HistoriesHold (order : Order) (log : Log) (histories : ℕ → List E
 pub record CommandsHold (order : Order) (log : Log) (sites : List SiteState) : Type 0 where
   pub told : (tag : Tag) (place : ℕ) (atom : Atom (List ℕ)) (outcome : Outcome) → command_at order tag ≡ Some (to_place place atom) → outcome_at order tag ≡ Some outcome
       → IsTold place tag (histories_of sites place) log outcome
-  pub untaken : (place i j : ℕ) (site : SiteState) (way : WayState) (tag : Tag) → slice_get sites place ≡ Some site → slice_get site.lost i ≡ Some way
+  pub untaken : (place i j : ℕ) (site : SiteState) (way : StaleState) (tag : Tag) → slice_get sites place ≡ Some site → slice_get site.lost i ≡ Some way
       → slice_get way.untaken j ≡ Some tag → IsUntaken place order log tag
 
 -- A log leaves a pool in this state, whose requests were taken in this order and routed by this ring at first, and which emitted

@@ -14,7 +14,7 @@ use Rattle.mc_cache_laws.specs.GoodCaches.{IsGoodCache}
 use Rattle.mc_server.specs.ServerState.{ConnectionState, ServerState, connection_at}
 use Rattle.mc_server.specs.Turns.{waiting_of}
 use Rattle.mc_proxy.specs.SessionState.{link_at}
-use Rattle.mc_world.specs.WorldState.{PoolState, SiteState, WayState}
+use Rattle.mc_world.specs.WorldState.{PoolState, SiteState, StaleState}
 
 -- a request is a command as a proxy encodes it
 abbrev pub IsSpelled : Taken → Type 0
@@ -36,8 +36,8 @@ pub record SiteServes (link : LinkState) (site : SiteState) : Type 0 where
   pub waits : link.up ≡ true → 0 < length (waiting_of (connection_at site.server site.connection)) → site.ahead < length link.waiting
   pub never_strange : link.up ≡ true → HasStrange link.waiting link.unread → ⊥
   pub replied : (tag : Tag) (reply : AReply (List ℕ)) (after : LinkState) → link.up ≡ true → Takes link tag reply after → 1 ≤ site.ahead
-  pub lost : (i : ℕ) (way : WayState) → slice_get site.lost i ≡ Some way → ServesProxy way.connection site.server
-  pub untaken : (i : ℕ) (way : WayState) → slice_get site.lost i ≡ Some way → 0 < length (waiting_of (connection_at site.server way.connection))
+  pub lost : (i : ℕ) (way : StaleState) → slice_get site.lost i ≡ Some way → ServesProxy way.connection site.server
+  pub untaken : (i : ℕ) (way : StaleState) → slice_get site.lost i ≡ Some way → 0 < length (waiting_of (connection_at site.server way.connection))
       → 0 < length way.untaken
 
 -- each site of a pool serves, one for each link

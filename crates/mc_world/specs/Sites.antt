@@ -12,10 +12,10 @@ use Rattle.mc_account.specs.Orders.{Order, Tagged, commands_to}
 use Rattle.mc_history.specs.Generations.{commands_of_lane, is_good}
 use Rattle.mc_history.specs.Made.{AreMade, Each, Made, commands_on, entry_of, taking_of}
 use Rattle.mc_history.specs.Named.{AreReplied, IsNamed, tags_made, tags_of, times}
-use Rattle.mc_world.specs.WorldState.{SiteState, WayState}
+use Rattle.mc_world.specs.WorldState.{SiteState, StaleState}
 
 -- how often a tag is among the commands of lost generations that were not taken
-abbrev pub untaken_times : Tag → List WayState → ℕ
+abbrev pub untaken_times : Tag → List StaleState → ℕ
 untaken_times tag [] = 0
 untaken_times tag (way ∷ ways) = times tag way.untaken + untaken_times tag ways
 
@@ -34,7 +34,7 @@ pub record IsLiving (place : ℕ) (order : Order) (lane : Lane) (all made : List
 
 -- A lost generation: its connection is open; the bytes that arrived and those on their way encode the commands that the server took and
 -- those that it has not.
-pub record IsLostWay (place : ℕ) (order : Order) (made : List Made) (texts : ℕ → List ℕ) (server : ServerState) (way : WayState) : Type 0 where
+pub record IsLostWay (place : ℕ) (order : Order) (made : List Made) (texts : ℕ → List ℕ) (server : ServerState) (way : StaleState) : Type 0 where
   pub end : ConnectionState
   pub is_open : connection_at server way.connection ≡ Some end
   pub others : List Tagged
@@ -62,7 +62,7 @@ pub record SiteHolds (place : ℕ) (order : Order) (lane : Lane) (link : LinkSta
   -- each command that was sent was taken, or is still to be taken, at most once
   pub once : (tag : Tag) → times tag (tags_made (past ++ made)) + untaken_times tag site.lost ≤ times tag (tags_of (commands_to place order))
   pub living : link.up ≡ true → IsLiving place order lane (past ++ made) made texts sent site
-  pub lost : (i : ℕ) (way : WayState) → slice_get site.lost i ≡ Some way → IsLostWay place order made texts site.server way
+  pub lost : (i : ℕ) (way : StaleState) → slice_get site.lost i ≡ Some way → IsLostWay place order made texts site.server way
   -- no two ways share a connection
-  pub apart : (i j : ℕ) (v w : WayState) → slice_get site.lost i ≡ Some v → slice_get site.lost j ≡ Some w → i ≢ j → v.connection ≢ w.connection
-  pub apart_living : link.up ≡ true → (i : ℕ) (way : WayState) → slice_get site.lost i ≡ Some way → site.connection ≢ way.connection
+  pub apart : (i j : ℕ) (v w : StaleState) → slice_get site.lost i ≡ Some v → slice_get site.lost j ≡ Some w → i ≢ j → v.connection ≢ w.connection
+  pub apart_living : link.up ≡ true → (i : ℕ) (way : StaleState) → slice_get site.lost i ≡ Some way → site.connection ≢ way.connection

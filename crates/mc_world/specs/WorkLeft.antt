@@ -8,7 +8,7 @@ use Rattle.mc_link.specs.LinkState.{LinkState}
 use Rattle.mc_server.specs.ServerState.{connection_at, output_of}
 use Rattle.mc_proxy.specs.SessionState.{SessionState}
 use Rattle.mc_proxy.specs.ProxyState.{Sessions}
-use Rattle.mc_world.specs.WorldState.{PoolState, SiteState, WayState}
+use Rattle.mc_world.specs.WorldState.{PoolState, SiteState, StaleState}
 
 -- bytes that can be moved at once: one thing to do, if there are any
 abbrev pub moves_of : List ℕ → ℕ
@@ -39,7 +39,7 @@ abbrev pub work_of_link : LinkState → SiteState → ℕ
 work_of_link link site = if link.up then work_on link site else 0
 
 -- lost generations: for each its end, and the turns of the commands that were not taken
-abbrev pub work_of_ways : List WayState → ℕ
+abbrev pub work_of_ways : List StaleState → ℕ
 work_of_ways [] = 0
 work_of_ways (way ∷ ways) = 1 + length way.untaken + work_of_ways ways
 

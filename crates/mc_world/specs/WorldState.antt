@@ -7,15 +7,15 @@ use Rattle.mc_history.specs.declared.entries.Entry.{Entry}
 
 -- a lost generation whose end its server has not seen: its number, the number of the server's connection, the bytes on their way, and the tags of the commands
 -- that the server has not taken
-pub record WayState : Type 0 where
+pub record StaleState : Type 0 where
   pub generation : ℕ
   pub connection : ℕ
   pub going : List ℕ
   pub untaken : List Tag
 
 -- the generations of these rise
-abbrev pub IsRising : List WayState → Type 0
-IsRising ways = (i j : ℕ) (v w : WayState) → slice_get ways i ≡ Some v → slice_get ways j ≡ Some w → i < j → v.generation < w.generation
+abbrev pub IsRising : List StaleState → Type 0
+IsRising ways = (i j : ℕ) (v w : StaleState) → slice_get ways i ≡ Some v → slice_get ways j ≡ Some w → i < j → v.generation < w.generation
 
 -- a server with its ways: what it took in all its lives, and how many requests before this one; the living generation, its connection, and how many commands it
 -- took there whose replies the proxy has not taken; and the lost generations
@@ -26,7 +26,7 @@ pub record SiteState : Type 0 where
   pub generation : ℕ
   pub connection : ℕ
   pub ahead : ℕ
-  pub lost : List WayState
+  pub lost : List StaleState
 
 -- the site of a server whose link is of the first generation, over its first connection
 abbrev pub with_server : ServerState → SiteState

@@ -4,7 +4,7 @@ ghost use Rattle.std.specs.Prelude.{◌≡◌, ◌+◌, ◌-◌, ◌<◌, ◌^�
 use crate::errors::{Step, WorldError};
 use crate::sites::Site;
 use crate::turning::serve;
-use crate::ways::{Way, tags_from};
+use crate::ways::{StaleConnection, tags_from};
 use mc_proxy::Proxy;
 use mc_server::ServerError;
 use mc_store::Store;
@@ -18,10 +18,10 @@ impl<S: Store + Drop> Site<S> {
     ghost use Rattle.mc_world.specs.Happens.{ArrivesLate, ComesBack, Does, Ends, EntersLate};
     ghost use Rattle.mc_world.specs.Pools.{cut_off};
     ghost use Rattle.mc_world.specs.Serving.{ServesProxy};
-    ghost use Rattle.mc_world.specs.WorldState.{WayState};
+    ghost use Rattle.mc_world.specs.WorldState.{StaleState};
 
     /// The lost generations whose end the server has not seen.
-    pub fn lost(&self) -> &[Way]
+    pub fn lost(&self) -> &[StaleConnection]
         ensures { result.now ≡ self.now.lost }
     {
         self.lost.as_slice()
@@ -52,14 +52,14 @@ impl<S: Store + Drop> Site<S> {
     pub(crate) fn turn_late(&mut self, i: usize, moment: u64) -> Result<Step, WorldError>
         requires inside { i < length self.old.lost }
         requires moment { moment < 2 ^ 63 }
-        requires serves { (way : WayState) → slice_get self.old.lost i ≡ Some way → ServesProxy way.connection self.old.server }
-        requires untaken { (way : WayState) → slice_get self.old.lost i ≡ Some way
+        requires serves { (way : StaleState) → slice_get self.old.lost i ≡ Some way → ServesProxy way.connection self.old.server }
+        requires untaken { (way : StaleState) → slice_get self.old.lost i ≡ Some way
             → 0 < length (waiting_of (connection_at self.old.server way.connection)) → 0 < length way.untaken }
         ensures enters { IfOk result (λ step. Does step (EntersLate i moment self.old self.new) (self.new ≡ self.old)) }
-        ensures applies { (way : WayState) → slice_get self.old.lost i ≡ Some way
+        ensures applies { (way : StaleState) → slice_get self.old.lost i ≡ Some way
             → IfOk result (λ step. (step ≡ Step.Done) ↔ (0 < length (waiting_of (connection_at self.old.server way.connection)))) }
         ensures err { OnErr result (self.new ≡ self.old) }
-        ensures err_applies { (way : WayState) → slice_get self.old.lost i ≡ Some way
+        ensures err_applies { (way : StaleState) → slice_get self.old.lost i ≡ Some way
             → OnErr result (0 < length (waiting_of (connection_at self.old.server way.connection))) }
     {
         let way = &self.lost[i];
@@ -85,7 +85,7 @@ impl<S: Store + Drop> Site<S> {
     /// The server sees the end of a lost generation.
     pub(crate) fn end(&mut self, i: usize)
         requires inside { i < length self.old.lost }
-        requires serves { (way : WayState) → slice_get self.old.lost i ≡ Some way → ServesProxy way.connection self.old.server }
+        requires serves { (way : StaleState) → slice_get self.old.lost i ≡ Some way → ServesProxy way.connection self.old.server }
         ensures { Ends i self.old self.new }
     {
         self.server.close(self.lost[i].connection()).unwrap();
@@ -104,8 +104,12 @@ impl<S: Store + Drop> Site<S> {
         self.lost.reserve(1)?;
         let untaken = tags_from(self.alloc, proxy, place, self.ahead)?;
         let bytes = proxy.lost(place)?;
-        self.lost
-            .push_reserved(Way::new(self.generation, self.connection, bytes, untaken));
+        self.lost.push_reserved(StaleConnection::new(
+            self.generation,
+            self.connection,
+            bytes,
+            untaken,
+        ));
         Ok(())
     }
 

@@ -53,7 +53,7 @@ pub use mc_history::Entry;
 pub use mc_route::Losses;
 pub use pools::Pool;
 pub use sites::Site;
-pub use ways::Way;
+pub use ways::StaleConnection;
 pub use world_laws::{
     courses_go_on, courses_serve, every_run_gives_account, every_world_gives_account,
     nothing_is_stuck, opening_pools_hold,

@@ -3,7 +3,7 @@ ghost use Rattle.std.specs.Prelude.{◌≡◌, ◌≤◌, ◌<◌, ◌+◌, ◌-
 
 use crate::errors::{Step, WorldError};
 use crate::turning::serve;
-use crate::ways::Way;
+use crate::ways::StaleConnection;
 use mc_history::Entry;
 use mc_link::Tag;
 use mc_server::Server;
@@ -27,7 +27,7 @@ pub struct Site<S: Store + Drop> {
     /// How many commands of the living generation the server took whose replies the proxy has not taken.
     pub(crate) ahead: usize,
     /// The lost generations whose end the server has not seen.
-    pub(crate) lost: Vec<Way>,
+    pub(crate) lost: Vec<StaleConnection>,
 }
 
 impl<S: Store + Drop> Model for Site<S> {

@@ -11,7 +11,7 @@ use std::marker::Model;
 
 /// A lost generation whose end its server has not seen.
 #[derive(Drop)]
-pub struct Way {
+pub struct StaleConnection {
     /// Which generation it is.
     generation: u64,
     /// The number of the server's connection.
@@ -24,11 +24,11 @@ pub struct Way {
     untaken: VecDeque<Tag>,
 }
 
-impl Model for Way {
+impl Model for StaleConnection {
     ghost use Rattle.std.specs.Prelude.{◌≤◌, ◌*◌, drop, vec_len};
-    ghost use Rattle.mc_world.specs.WorldState.{WayState};
+    ghost use Rattle.mc_world.specs.WorldState.{StaleState};
 
-    ghost Value = { WayState };
+    ghost Value = { StaleState };
 
     ghost view = { λ w. record {
       generation = w.generation;
@@ -40,17 +40,17 @@ impl Model for Way {
     ghost invariant = { λ w. 2 * w.arrived ≤ vec_len w.bytes };
 }
 
-impl Way {
+impl StaleConnection {
     /// A lost generation, with the bytes that are on their way and the tags of the commands that were not taken.
     pub(crate) fn new(
         generation: u64,
         connection: u64,
         bytes: Vec<u8>,
         untaken: VecDeque<Tag>,
-    ) -> Way
+    ) -> StaleConnection
         ensures { result ≡ record { generation = generation; connection = connection; going = bytes.items; untaken = untaken.items } }
     {
-        Way {
+        StaleConnection {
             generation,
             connection,
             bytes,

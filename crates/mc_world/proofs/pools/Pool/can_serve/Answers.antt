@@ -1,7 +1,7 @@
 use Rattle.std.proofs.Common.{rules, ◌≡◌, ◌∙◌, ◌<◌, false, List, Some, None, length, slice_get, refl, sym, ap, subst}
 use Rattle.std.proofs.lemmas.Option.{slice_get_past, slice_get_read}
 use Rattle.mc_world.specs.Applies.{CanServeLate, Lives, way_of}
-use Rattle.mc_world.specs.WorldState.{SiteState, WayState}
+use Rattle.mc_world.specs.WorldState.{SiteState, StaleState}
 use Rattle.mc_world.proofs.AppliesLemmas.{found_way, pool_of}
 use Rattle.mc_world.proofs.ApplyingLemmas.{by_late, by_living, by_nowhere, lost_no_way, never, not_so, serves_living, serves_lost}
 use Rattle.mc_world.proofs.pools.Pool.can_serve.Goals as goal
@@ -36,8 +36,8 @@ returns-in-Some-way g c =
     let inside = (found_way c.args.generation c.in-Some.site.now.lost c.in-Some-way.i (sym found)).inside in
     let lost : c.lost.result.now ≡ c.in-Some.site.now.lost = c.lost.ensures in
     let way_at : slice_get c.in-Some.site.now.lost c.in-Some-way.i ≡ Some c.index-lost-i.result =
-    ap (λ (ways : List WayState). slice_get ways c.in-Some-way.i) (sym lost)
-    ∙ slice_get_read c.lost.result.now _ c.in-Some-way.i c.index-lost-i.result refl (subst (λ (ways : List WayState). c.in-Some-way.i < length ways) (sym lost) inside) (search rules) in
+    ap (λ (ways : List StaleState). slice_get ways c.in-Some-way.i) (sym lost)
+    ∙ slice_get_read c.lost.result.now _ c.in-Some-way.i c.index-lost-i.result refl (subst (λ (ways : List StaleState). c.in-Some-way.i < length ways) (sym lost) inside) (search rules) in
     rw (← c.self.view_is) (by_late c.args.place c.args.generation pool _ _ c.has_request-in-Some-way.result never_lives
     (serves_lost c.args.place c.args.generation c.in-Some-way.i pool c.in-Some.site.now c.index-lost-i.result at found way_at c.has_request-in-Some-way.result (search rules)))
 

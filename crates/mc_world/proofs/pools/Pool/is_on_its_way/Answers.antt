@@ -2,7 +2,7 @@ use Rattle.std.proofs.Common.{rules, ◌≡◌, ◌∙◌, ◌<◌, false, List,
 use Rattle.std.specs.Prelude.{◌↔◌, IsTrue, not}
 use Rattle.std.proofs.lemmas.Option.{slice_get_past, slice_get_read}
 use Rattle.mc_world.specs.Applies.{CanReachLate, Lives, way_of}
-use Rattle.mc_world.specs.WorldState.{SiteState, WayState}
+use Rattle.mc_world.specs.WorldState.{SiteState, StaleState}
 use Rattle.mc_world.proofs.AppliesLemmas.{found_way, pool_of}
 use Rattle.mc_world.proofs.ApplyingLemmas.{by_late, by_nowhere, lost_no_way, never, not_so, reaches_lost, some_if}
 use Rattle.mc_world.proofs.pools.Pool.is_on_its_way.Goals as goal
@@ -27,8 +27,8 @@ returns-in-Some-way g c =
     let inside = (found_way c.args.generation c.in-Some.site.now.lost c.in-Some-way.i (sym found)).inside in
     let lost : c.lost.result.now ≡ c.in-Some.site.now.lost = c.lost.ensures in
     let way_at : slice_get c.in-Some.site.now.lost c.in-Some-way.i ≡ Some c.index-lost-i.result =
-    ap (λ (ways : List WayState). slice_get ways c.in-Some-way.i) (sym lost)
-    ∙ slice_get_read c.lost.result.now _ c.in-Some-way.i c.index-lost-i.result refl (subst (λ (ways : List WayState). c.in-Some-way.i < length ways) (sym lost) inside) (search rules) in
+    ap (λ (ways : List StaleState). slice_get ways c.in-Some-way.i) (sym lost)
+    ∙ slice_get_read c.lost.result.now _ c.in-Some-way.i c.index-lost-i.result refl (subst (λ (ways : List StaleState). c.in-Some-way.i < length ways) (sym lost) inside) (search rules) in
     let some : IsTrue (not c.is_empty-in-Some-way.result) ↔ (0 < length c.index-lost-i.result.going) =
     rw c.going.ensures at (some_if c.is_empty-in-Some-way.result (length c.going.result.now) c.is_empty-in-Some-way.ensures) in
     rw (← c.self.view_is) (λ count asked. by_late c.args.place c.args.generation pool _ _ (not c.is_empty-in-Some-way.result) never_lives

@@ -1,6 +1,6 @@
 use Rattle.std.proofs.Common.{rules, ◌≡◌, ◌∙◌, ◌<◌, ℕ, List, Some, length, slice_get, refl, sym, ap, subst, arith}
 use Rattle.std.proofs.lemmas.Option.{same_Some, slice_get_read}
-use Rattle.mc_world.specs.WorldState.{WayState}
+use Rattle.mc_world.specs.WorldState.{StaleState}
 use Rattle.mc_world.specs.Applies.{way_of}
 use Rattle.mc_world.proofs.AppliesLemmas.{at_error, found_way, it_applies, reached_late}
 use Rattle.mc_world.proofs.pools.Pool.late_bytes.Goals as goal
@@ -32,10 +32,10 @@ returns-clause-applies g c =
     let found = found_way c.args.generation c.in-Some.site.now.lost c.in-Some-way.i first in
     let lost : c.lost.result.now ≡ c.in-Some.site.now.lost = c.lost.ensures in
     let there : slice_get c.lost.result.now c.in-Some-way.i ≡ Some c.index-lost-i.result =
-    slice_get_read c.lost.result.now _ c.in-Some-way.i c.index-lost-i.result refl (subst (λ (ways : List WayState). c.in-Some-way.i < length ways) (sym lost) found.inside) (search rules) in
-    let same : found.way ≡ c.index-lost-i.result = same_Some found.way c.index-lost-i.result (sym found.at ∙ ap (λ (ways : List WayState). slice_get ways c.in-Some-way.i) (sym lost) ∙ there) in
+    slice_get_read c.lost.result.now _ c.in-Some-way.i c.index-lost-i.result refl (subst (λ (ways : List StaleState). c.in-Some-way.i < length ways) (sym lost) found.inside) (search rules) in
+    let same : found.way ≡ c.index-lost-i.result = same_Some found.way c.index-lost-i.result (sym found.at ∙ ap (λ (ways : List StaleState). slice_get ways c.in-Some-way.i) (sym lost) ∙ there) in
     let some : 0 < length c.going.result.now = search rules in
-    let going : length c.going.result.now ≡ length found.way.going = ap (λ (bytes : List ℕ). length bytes) (c.going.ensures ∙ ap (λ (w : WayState). w.going) (sym same)) in
+    let going : length c.going.result.now ≡ length found.way.going = ap (λ (bytes : List ℕ). length bytes) (c.going.ensures ∙ ap (λ (w : StaleState). w.going) (sym same)) in
     let bytes : 0 < length found.way.going = omega (arith, some, going) in
     let asked : 0 < c.args.count = search rules in
     rw (← c.self.view_is) (it_applies (record { there = record { site = c.in-Some.site.now; at = at; i = c.in-Some-way.i; first = first; way = found.way; way_at = found.at }; moves = (asked, bytes) }))
@@ -50,10 +50,10 @@ returns-in_err-arrive_late-clause-err_applies g c =
     let found = found_way c.args.generation c.in-Some.site.now.lost c.in-Some-way.i first in
     let lost : c.lost.result.now ≡ c.in-Some.site.now.lost = c.lost.ensures in
     let there : slice_get c.lost.result.now c.in-Some-way.i ≡ Some c.index-lost-i.result =
-    slice_get_read c.lost.result.now _ c.in-Some-way.i c.index-lost-i.result refl (subst (λ (ways : List WayState). c.in-Some-way.i < length ways) (sym lost) found.inside) (search rules) in
-    let same : found.way ≡ c.index-lost-i.result = same_Some found.way c.index-lost-i.result (sym found.at ∙ ap (λ (ways : List WayState). slice_get ways c.in-Some-way.i) (sym lost) ∙ there) in
+    slice_get_read c.lost.result.now _ c.in-Some-way.i c.index-lost-i.result refl (subst (λ (ways : List StaleState). c.in-Some-way.i < length ways) (sym lost) found.inside) (search rules) in
+    let same : found.way ≡ c.index-lost-i.result = same_Some found.way c.index-lost-i.result (sym found.at ∙ ap (λ (ways : List StaleState). slice_get ways c.in-Some-way.i) (sym lost) ∙ there) in
     let some : 0 < length c.going.result.now = search rules in
-    let going : length c.going.result.now ≡ length found.way.going = ap (λ (bytes : List ℕ). length bytes) (c.going.ensures ∙ ap (λ (w : WayState). w.going) (sym same)) in
+    let going : length c.going.result.now ≡ length found.way.going = ap (λ (bytes : List ℕ). length bytes) (c.going.ensures ∙ ap (λ (w : StaleState). w.going) (sym same)) in
     let bytes : 0 < length found.way.going = omega (arith, some, going) in
     let asked : 0 < c.args.count = search rules in
     rw (← c.self.view_is) (at_error _ c.from_residual.result (record { there = record { site = c.in-Some.site.now; at = at; i = c.in-Some-way.i; first = first; way = found.way; way_at = found.at }; moves = (asked, bytes) }))

@@ -3,7 +3,7 @@ use Rattle.std.proofs.lemmas.Option.{same_Some, slice_get_read}
 use Rattle.mc_server.specs.ServerState.{connection_at}
 use Rattle.mc_server.specs.Turns.{waiting_of}
 use Rattle.mc_world.specs.Happens.{Does, EntersOn}
-use Rattle.mc_world.specs.WorldState.{SiteState, WayState}
+use Rattle.mc_world.specs.WorldState.{SiteState, StaleState}
 use Rattle.mc_world.specs.declared.errors.Step.{Step}
 use Rattle.mc_world.specs.declared.errors.Step.TheVariants.{Done}
 use Rattle.mc_world.proofs.TurnLemmas.{entered_late, said_of_way}
@@ -11,7 +11,7 @@ use Rattle.mc_world.proofs.sites.Site.turn_late.Goals as goal
 
 pub returns-clause-enters : goal.returns-clause-enters
 returns-clause-enters g c =
-    let way : WayState = c.index-way.result.now in
+    let way : StaleState = c.index-way.result.now in
     let inside : c.args.i < length c.self.inside.lost.items = subst (λ (s : SiteState). c.args.i < length s.lost) (sym c.self.view_is) c.requires.inside in
     let at : slice_get c.self.inside.lost.items c.args.i ≡ Some c.index-way.result.now = slice_get_read _ _ c.args.i c.index-way.result.now refl inside (search rules) in
     let first : EntersOn c.connection-connection.result c.args.moment c.in-Some.tag c.self.inside.server c.serve.new.server c.self.inside.history.items c.serve.new.history.items =
@@ -23,11 +23,11 @@ returns-clause-enters g c =
     let again : slice_get c.self.inside.lost.items c.args.i ≡ Some c.index_mut.result.now = slice_get_read _ _ c.args.i c.index_mut.result.now refl inside (search rules) in
     let now : c.index_mut.result.now ≡ c.index-way.result.now = same_Some c.index_mut.result.now c.index-way.result.now (sym again ∙ at) in
     let taken : c.taken.new.self ≡ record c.index-way.result.now { untaken = drop 1 c.index-way.result.now.untaken } =
-    c.taken.ensures ∙ ap (λ (w : WayState). record w { untaken = drop 1 w.untaken }) now in
+    c.taken.ensures ∙ ap (λ (w : StaleState). record w { untaken = drop 1 w.untaken }) now in
     rw taken (rw (← c.self.view_is) (entered_late c.args.i c.args.moment c.in-Some.tag _ c.serve.new.server c.serve.new.history.items c.index-way.result.now at next h))
 
 pub returns-clause-applies : goal.returns-clause-applies
 returns-clause-applies g c =
     let inside : c.args.i < length c.self.inside.lost.items = subst (λ (s : SiteState). c.args.i < length s.lost) (sym c.self.view_is) c.requires.inside in
     let at : slice_get c.self.inside.lost.items c.args.i ≡ Some c.index-way.result.now = slice_get_read _ _ c.args.i c.index-way.result.now refl inside (search rules) in
-    rw (← c.self.view_is) (said_of_way (λ (way : WayState). (Done ≡ Done) ↔ (0 < length (waiting_of (connection_at c.self.inside.server way.connection)))) c.self.inside.lost.items c.args.i c.index-way.result.now at (search rules))
+    rw (← c.self.view_is) (said_of_way (λ (way : StaleState). (Done ≡ Done) ↔ (0 < length (waiting_of (connection_at c.self.inside.server way.connection)))) c.self.inside.lost.items c.args.i c.index-way.result.now at (search rules))
