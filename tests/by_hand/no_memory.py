@@ -42,6 +42,7 @@ ROW = 100  # refusals in a row after which the memory is used up
 TRIED = 1_000  # most gets and sets of stored keys
 DELETED = 10
 SECONDS = 120
+SECONDS_SHORT = 3  # within which a value is stored once there is memory: keys that are not held are refused for a second at most
 FIRST_OF_OTHERS = 10**9  # the number of the key of the first of the twenty clients
 STORED, TOLD, CLOSED = "stored", "told", "closed"
 
@@ -122,7 +123,13 @@ class Trial:
         """Whether a value is stored once some are deleted."""
         for number in range(min(DELETED, held)):
             self.reading.answered(b"delete %b\r\n" % key_of(number), b"DELETED\r\n")
-        return any(self.storing.store(FIRST_OF_OTHERS - 1 - each, self.size) == STORED for each in range(DELETED))
+        end = time.monotonic() + SECONDS_SHORT
+        number = FIRST_OF_OTHERS - 1
+        while time.monotonic() < end:
+            if self.storing.store(number, self.size) == STORED:
+                return True
+            number -= 1
+        return False
 
     def outcome(self):
         """The cells of a row, and whether all was as expected."""

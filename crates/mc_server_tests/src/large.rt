@@ -14,13 +14,13 @@ use std::test::Fail;
 /// How many bytes a piece of a client's text has at most: less than a data block.
 const PIECE: usize = 20_000;
 
-/// How many times 16 bytes a value has: it has 65,536, so it is kept apart as it arrives, and is sent from where it is stored.
+/// How many times 16 bytes a value has: it has 65,536, so it is kept apart as it comes, and is shown from where it is.
 const SIXTEENS: usize = 4_096;
 
 /// More requests than a client here sends at a time.
 const MANY: usize = 20;
 
-/// The bytes before the value and after it, if it is shown: with ample memory; then with one store refused.
+/// What is before the value and behind it, if it is shown: with ample memory; then with one store refused.
 const SHOWN: [(&[u8], &[u8]); 3] = [
     (
         b"STORED\r\nSTORED\r\nVALUE a 0 65536\r\n",
@@ -36,7 +36,7 @@ const SHOWN: [(&[u8], &[u8]); 3] = [
     ),
 ];
 
-/// The answers if memory is short from the first data block on, and until the reserve is whole again.
+/// What is answered if memory is short from the first data block on, and until the reserve is whole again.
 const SHORT: &[u8] =
     b"SERVER_ERROR out of memory storing object\r\nSERVER_ERROR out of memory storing object\r\nEND\r\nSTORED\r\n";
 
@@ -52,74 +52,81 @@ fn keep_reserve(server: &mut Server<MeagreStore>, bytes: usize) -> Result<(), Se
     again!(server.keep_reserve(bytes))
 }
 
-/// A server with a client, which makes each call at most this many times.
-#[derive(Drop)]
-struct Tried {
-    server: Server<MeagreStore>,
+fn feed(
+    server: &mut Server<MeagreStore>,
+    number: u64,
+    piece: &[u8],
+    tries: usize,
+) -> Result<(), ServerError> {
+    for _ in 1..tries {
+        if let Ok(()) = server.feed(number, piece) {
+            return Ok(());
+        }
+    }
+    server.feed(number, piece)
+}
+
+fn turn_once(server: &mut Server<MeagreStore>, number: u64) -> Result<Limited, ServerError> {
+    let mut went = 0;
+    server.turn_gathering(
+        number,
+        MOMENT,
+        AnswerLimit::none(),
+        &mut NoWriter,
+        &mut went,
+    )
+}
+
+fn turn(
+    server: &mut Server<MeagreStore>,
     number: u64,
     tries: usize,
+) -> Result<Limited, ServerError> {
+    for _ in 1..tries {
+        if let Ok(limited) = turn_once(server, number) {
+            return Ok(limited);
+        }
+    }
+    turn_once(server, number)
 }
 
-impl Tried {
-    fn feed(&mut self, piece: &[u8]) -> Result<(), ServerError> {
-        for _ in 1..self.tries {
-            if let Ok(()) = self.server.feed(self.number, piece) {
-                return Ok(());
+/// Feeds a text in pieces, and takes each request as it is whole. Each call may be made so many times.
+fn say(
+    server: &mut Server<MeagreStore>,
+    number: u64,
+    text: &[u8],
+    tries: usize,
+) -> Result<(), ServerError> {
+    for piece in text.chunks(PIECE) {
+        feed(server, number, piece, tries)?;
+        for _ in 0..MANY {
+            if turn(server, number, tries)? != Limited::Turned(Turn::Took) {
+                break;
             }
         }
-        self.server.feed(self.number, piece)
     }
-
-    fn turn_once(&mut self) -> Result<Limited, ServerError> {
-        let limit = AnswerLimit::none();
-        let mut went = 0;
-        self.server
-            .turn_gathering(self.number, MOMENT, limit, &mut NoWriter, &mut went)
-    }
-
-    fn turn(&mut self) -> Result<Limited, ServerError> {
-        for _ in 1..self.tries {
-            if let Ok(limited) = self.turn_once() {
-                return Ok(limited);
-            }
-        }
-        self.turn_once()
-    }
-
-    /// Feeds a text in pieces, and takes each request as soon as it is whole.
-    fn say(&mut self, text: &[u8]) -> Result<(), ServerError> {
-        for piece in text.chunks(PIECE) {
-            self.feed(piece)?;
-            for _ in 0..MANY {
-                if self.turn()? != Limited::Turned(Turn::Took) {
-                    break;
-                }
-            }
-        }
-        Ok(())
-    }
+    Ok(())
 }
 
-/// The answers to two `set`s of one key, a `get` of it and a `set` of another key, by a server that keeps this number of bytes in reserve.
-fn answered(alloc: Global, reserve: usize, tries: usize) -> Result<Tried, Fail> {
-    let mut server = new_server(alloc, WIDE)?;
-    keep_reserve(&mut server, reserve)?;
-    let number = admit(&mut server)?;
-    let set = text(alloc, b"set a 0 0 65536\r\n", b"\r\n")?;
-    let mut tried = Tried {
-        server,
-        number,
-        tries,
-    };
-    tried.say(&set)?;
-    tried.say(&set)?;
-    tried.say(b"get a\r\n")?;
-    keep_reserve(&mut tried.server, reserve)?;
-    tried.say(b"set b 0 0 1\r\nx\r\n")?;
-    Ok(tried)
+/// The dialogue of a client with a server that keeps so many bytes in reserve: two `set`s of one key, a `get` of it, and a `set` of another
+/// key once the reserve is whole.
+fn talk(
+    server: &mut Server<MeagreStore>,
+    set: &[u8],
+    reserve: usize,
+    tries: usize,
+) -> Result<u64, ServerError> {
+    keep_reserve(server, reserve)?;
+    let number = admit(server)?;
+    say(server, number, set, tries)?;
+    say(server, number, set, tries)?;
+    say(server, number, b"get a\r\n", tries)?;
+    keep_reserve(server, reserve)?;
+    say(server, number, b"set b 0 0 1\r\nx\r\n", tries)?;
+    Ok(number)
 }
 
-/// Whether the output shows the value, with at most one store refused.
+/// Whether what is answered shows the value, with at most one store refused.
 fn is_shown(alloc: Global, output: &[u8]) -> Result<bool, AllocError> {
     for (before, after) in SHOWN {
         if output == text(alloc, before, after)?.as_slice() {
@@ -133,17 +140,21 @@ fn is_shown(alloc: Global, output: &[u8]) -> Result<bool, AllocError> {
 #[test]
 fn large_values_are_stored_all_the_same(rt: HostRuntime) -> Result<(), Fail> {
     let alloc = rt.alloc();
-    let tried = answered(alloc, 0, 4)?;
-    assert!(rt; is_shown(alloc, tried.server.output(tried.number))?);
+    let set = text(alloc, b"set a 0 0 65536\r\n", b"\r\n")?;
+    let mut server = new_server(alloc, WIDE)?;
+    let number = talk(&mut server, &set, 0, 4)?;
+    assert!(rt; is_shown(alloc, server.output(number))?);
     Ok(())
 }
 
-/// With a reserve each call is made once. If a call needs the reserve, keys that are missing are refused until it is whole again.
+/// With a reserve each call is made once. If one needs the reserve, keys that are not held are refused until it is whole again.
 #[test]
 fn a_reserve_serves_what_is_refused(rt: HostRuntime) -> Result<(), Fail> {
     let alloc = rt.alloc();
-    let tried = answered(alloc, 65_536, 1)?;
-    let output = tried.server.output(tried.number);
+    let set = text(alloc, b"set a 0 0 65536\r\n", b"\r\n")?;
+    let mut server = new_server(alloc, WIDE)?;
+    let number = talk(&mut server, &set, 65_536, 1)?;
+    let output = server.output(number);
     assert!(rt; output == SHORT || is_shown(alloc, output)?);
     Ok(())
 }
