@@ -2,6 +2,7 @@
 ghost use Rattle.std.specs.Prelude.{◌≡◌, ◌<◌, vec_len};
 
 use crate::limits::CLIENT_ROOM;
+use crate::pools::is_marked;
 use mc_net::{AfterPump, Client, Guard, Handler, Input, PIECE_LEN, step_after};
 use mc_program::ServeError;
 use mc_proxy::{Losses, MAX_SESSIONS, Proxy};
@@ -11,9 +12,16 @@ use mc_stream::IoStats;
 use std::alloc::Global;
 use std::collections::HashMap;
 
-/// How many bytes a client has sent, and servers have sent for it, since it last had no pending answer: no fewer than are buffered
-/// for it.
-pub type BufferedBytes = u64;
+/// What a proxy keeps of a client.
+#[derive(Clone, Copy, Default)]
+pub struct ClientState {
+    /// How many bytes a client has sent, and servers have sent for it, since it last had no pending answer: no fewer than are buffered
+    /// for it.
+    pub buffered: u64,
+    /// A bit for each place of a server for which the next request is known to have no command. A server that joins only takes keys, so
+    /// no bit becomes wrong by it.
+    not_for: u64,
+}
 
 /// A proxy, and what its clients share.
 #[derive(Drop)]
@@ -50,15 +58,29 @@ impl ProxyHandler {
         self.keys.get(&session).copied()
     }
 
-    /// Returns whether the next request of a session waits for one of the links to the servers at some places.
-    pub fn waits_for_any(&self, session: u64, places: &[usize]) -> bool {
-        places
-            .iter()
-            .any(|place| self.proxy.waits_for(session, *place))
+    /// Returns whether the next request of a client waits for one of the links to the servers at some places. A request is read once for
+    /// each place, until the client is served: so requests that wait long cost little, however often a link falls below its mark.
+    pub fn waits_for_any(&self, client: &mut Client<ClientState>, places: &[usize]) -> bool {
+        for place in places {
+            let bit = bit_of(*place);
+            if client.kept.not_for & bit != 0 {
+                continue;
+            }
+            if self.proxy.waits_for(client.number, *place) {
+                return true;
+            }
+            client.kept.not_for |= bit;
+        }
+        false
+    }
+
+    /// Returns whether each of the links to the servers at some places has reached its mark of unsent bytes.
+    pub fn are_marked(&self, places: &[usize]) -> bool {
+        places.iter().all(|place| is_marked(&self.proxy, *place))
     }
 
     /// Sends a client its answers, and returns what is done with it next. Once it has no pending answer, it is served again.
-    fn drain(&mut self, client: &mut Client<BufferedBytes>) -> AfterPump
+    fn drain(&mut self, client: &mut Client<ClientState>) -> AfterPump
         ensures { client.new.number ≡ client.old.number }
     {
         let mut output = &client.stream;
@@ -67,7 +89,7 @@ impl ProxyHandler {
             Ok(moved) => {
                 let owed = is_owed(&self.proxy, client.number);
                 if !owed {
-                    client.kept = 0;
+                    client.kept.buffered = 0;
                 }
                 if moved || !owed {
                     AfterPump::GoOn
@@ -79,7 +101,7 @@ impl ProxyHandler {
     }
 
     /// Carries a client's bytes, takes its requests, and emits its answers. It counts the traffic.
-    fn pump(&mut self, client: &mut Client<BufferedBytes>) -> Pumped
+    fn pump(&mut self, client: &mut Client<ClientState>) -> Pumped
         ensures { client.new.number ≡ client.old.number }
     {
         let mut input = Input {
@@ -105,7 +127,12 @@ impl ProxyHandler {
     }
 }
 
-impl Handler<BufferedBytes> for ProxyHandler {
+/// Returns the bit of a place; no bit if there is none.
+fn bit_of(place: usize) -> u64 {
+    if place < 64 { 1 << place } else { 0 }
+}
+
+impl Handler<ClientState> for ProxyHandler {
     fn admit(&mut self, key: usize) -> Option<u64> {
         let session = self.proxy.admit().ok()?;
         if self.keys.insert(session, key).is_err() {
@@ -121,17 +148,18 @@ impl Handler<BufferedBytes> for ProxyHandler {
     }
 
     /// Serves a client. If too many bytes are buffered for it, the proxy only sends its answers.
-    fn serve(&mut self, client: &mut Client<BufferedBytes>, _moment: u64) -> AfterPump {
-        if client.kept > self.most {
+    fn serve(&mut self, client: &mut Client<ClientState>, _moment: u64) -> AfterPump {
+        client.kept.not_for = 0;
+        if client.kept.buffered > self.most {
             return self.drain(client);
         }
         let before = self.tally.passed.read;
         let pumped = self.pump(client);
         if is_owed(&self.proxy, client.number) {
             let came = self.tally.passed.read.saturating_sub(before);
-            client.kept = client.kept.saturating_add(came);
+            client.kept.buffered = client.kept.buffered.saturating_add(came);
         } else {
-            client.kept = 0;
+            client.kept.buffered = 0;
         }
         step_after(pumped)
     }

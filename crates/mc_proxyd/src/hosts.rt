@@ -2,7 +2,7 @@
 ghost use Rattle.std.specs.Prelude.{◌<◌, ◌^◌};
 
 use crate::figures::{Done, show};
-use crate::handlers::{BufferedBytes, ProxyHandler};
+use crate::handlers::{ClientState, ProxyHandler};
 use crate::joining::Joining;
 use crate::limits::MAX_PASSES;
 use crate::listings::Listing;
@@ -37,7 +37,7 @@ pub struct ProxyLoop<'a> {
     settings: &'a ProxySettings,
     operators: Operators,
     handler: ProxyHandler,
-    clients: Clients<BufferedBytes>,
+    clients: Clients<ClientState>,
     pool: Upstreams,
     joining: Joining<'a>,
     /// The file that lists the servers, if there is one.
@@ -163,12 +163,15 @@ impl<'a> ProxyLoop<'a> {
         }
     }
 
-    /// Serves the clients whose requests wait for a link that fell below its mark.
+    /// Serves the clients whose requests wait for a link that fell below its mark, until each such link has reached its mark again.
     fn resume(&mut self) {
         for key in 0..MAX_SESSIONS {
             let freed = self.freed.as_slice();
-            if let Some(client) = self.clients.get(key)
-                && self.handler.waits_for_any(client.number, freed)
+            if self.handler.are_marked(freed) {
+                break;
+            }
+            if let Some(client) = self.clients.get_mut(key)
+                && self.handler.waits_for_any(client, freed)
             {
                 self.clients.serve(&mut self.handler, key, self.second);
             }
@@ -194,7 +197,7 @@ impl<'a> ProxyLoop<'a> {
             if let Some(key) = self.handler.key_of(session)
                 && let Some(client) = self.clients.get_mut(key)
             {
-                client.kept = client.kept.saturating_add(brought);
+                client.kept.buffered = client.kept.buffered.saturating_add(brought);
                 return Some(key);
             }
         }

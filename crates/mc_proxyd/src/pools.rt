@@ -215,7 +215,7 @@ impl Upstreams {
 }
 
 /// Returns whether the link at a place has reached its mark of unsent bytes.
-fn is_marked(proxy: &Proxy, place: usize) -> bool {
+pub fn is_marked(proxy: &Proxy, place: usize) -> bool {
     proxy.link_output(place).len() >= LINK_MARK
 }
 
