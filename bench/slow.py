@@ -42,7 +42,7 @@ SIZE_OF_A_SET = 10_000
 MARKING_SETS = 1_600  # this many fill a link up to its mark of 8 MiB, beside what the system takes
 SECONDS_TO_MARK = 1
 SMALLEST = 1  # bytes of a buffer: the system gives its least
-BEGINNING = "key-0000000000"
+BEGINNING = "key-00000"
 ANSWERS = {b"g": b"END\r\n", b"s": b"", b"v": b"STORED\r\n"}  # to a line, by its first byte
 
 
