@@ -13,7 +13,7 @@
 //! `mc_request` for the requests of a text. Its laws are here ([`requests_begin`], [`requests_go_on`], [`requests_are_well_formed`],
 //! [`requests_are_no_more_than_bytes`]).
 //!
-//! Calls that take memory: `feed`, `next`, `read_from` and `take_set`. Without memory `take_set` returns none, and `read_from` reads less. All
+//! Calls that take memory: `feed`, `next`, `read_from` and `take_set`. Without memory `take_set` returns none, and `read_from` reads nothing. All
 //! others take none, and cannot fail.
 #![tactic(auto)]
 
