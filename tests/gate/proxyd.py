@@ -629,6 +629,28 @@ def a_server_that_reads_nothing_is_waited_for():
         sender.join()
 
 
+def each_who_waits_for_a_slow_server_is_served():
+    """40 clients store a megabyte each, again and again, each waiting for its answer, at a server that reads one store at a time. Its link
+    has room for some of them alone, but all have their turns."""
+    with Played() as pool, contextlib.ExitStack() as stack:
+        [link] = pool.links
+        clients = [stack.enter_context(pool.connected()) for _ in range(40)]
+        puts = [stored(b"k%02d" % number, b"v" * 1_000_000)[:2] for number in range(40)]
+        for client, (put, _) in zip(clients, puts):
+            client.sendall(put)
+        served = set()
+        for _ in range(120):
+            came = received(link, len(puts[0][0]))
+            number = int(came[5:7])
+            put, told = puts[number]
+            want(came == put, True)
+            served.add(number)
+            link.sendall(told)
+            want(received(clients[number], len(told)), told)
+            clients[number].sendall(put)
+        want(sorted(served), list(range(40)))
+
+
 def who_ends_its_input_is_answered():
     """Also commands that are pending for a server then, which it is sent."""
     with Played() as pool, pool.connected() as client:
@@ -781,6 +803,7 @@ def checks():
         a_slow_server_that_answers_is_kept,
         a_report_is_said,
         a_server_that_reads_nothing_is_waited_for,
+        each_who_waits_for_a_slow_server_is_served,
         a_slow_reader_is_waited_for,
         one_who_asks_too_much_waits,
     ):

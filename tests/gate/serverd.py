@@ -12,8 +12,10 @@ import pathlib
 import re
 import resource
 import select
+import signal
 import subprocess
 import sys
+import threading
 import time
 
 sys.path.insert(0, str(pathlib.Path(__file__).resolve().parents[1] / "lib"))
@@ -689,6 +691,28 @@ def without_memory_what_is_held_is_served(size, turns):
         want((server.process.poll(), filler.closed), (None, 0))
 
 
+def a_reserve_that_was_used_comes_back():
+    """Clients that read no answers use the reserve, for longer than new keys are refused for that. Once such a client is gone the reserve is
+    whole again, though another stores many new keys at that moment: the next one is served from it too."""
+    put, shown = b"set k 0 0 %d\r\n%s\r\n" % (LARGE, b"w" * LARGE), b"VALUE k 0 %d\r\n%s\r\nEND\r\n" % (LARGE, b"w" * LARGE)
+    with start_with_little("", "4M") as server, Filler(server) as filler, server.connected() as client:
+        asked(client, put, b"STORED\r\n")
+        for size in (5_000, 1_000):
+            filler.fill(size)
+        for _ in range(8):
+            with server.connected() as slow:
+                slow.sendall(b"get k\r\n" * 12)
+                time.sleep(2.2)
+                server.process.send_signal(signal.SIGSTOP)
+            stores = b"".join(filler.store(3_000) for _ in range(300)) + b"version\r\n"
+            sender = threading.Thread(target=filler.answered, args=(stores, b"VERSION 1.6.0\r\n"))
+            sender.start()
+            time.sleep(0.05)
+            server.process.send_signal(signal.SIGCONT)
+            sender.join()
+            asked(client, b"get k\r\n", shown)
+
+
 def checks():
     """Each check by its name."""
     yield from checks_of_words(PROGRAM, SETTINGS, REFUSED, HELP)
@@ -710,6 +734,7 @@ def checks():
         operators_keep_their_descriptors,
         no_memory_ends_nobody_else,
         a_store_ends_the_row_of_refusals,
+        a_reserve_that_was_used_comes_back,
         names_of_operators_are_hosts,
     ):
         yield check.__name__, check, ()

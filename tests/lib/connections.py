@@ -243,13 +243,15 @@ def who_sends_without_end_holds_nobody_up(start):
 
 
 def lines_said(program, count=1):
-    """The next lines on standard error, as far as they arrive."""
+    """The next lines on standard error, as far as they arrive. It is wrong if none does."""
     stream, came, deadline = program.process.stderr, b"", time.monotonic() + PATIENCE
     while came.count(b"\n") < count and select.select([stream], [], [], max(0, deadline - time.monotonic()))[0]:
         byte = os.read(stream.fileno(), 1)
         if not byte:
             break
         came += byte
+    if not came:
+        raise Wrong("nothing is said")
     return came.decode().splitlines()
 
 

@@ -11,7 +11,7 @@ import tempfile
 import time
 
 from checks import PATIENCE, Program, Wrong, asked, is_served, received, want, want_at_most
-from live_pool import LOST, Pool, is_said, nothing_is_said, stored
+from live_pool import LOST, Played, Pool, is_said, nothing_comes, nothing_is_said, stored
 from rings import Ring
 from servers import HOST, Proxy, Server
 
@@ -46,12 +46,12 @@ BAD = {
 class Listed:
     """Servers, a file that lists them, and a proxy with that file."""
 
-    def __init__(self, count=2, words=(), **limits):
+    def __init__(self, count=2, words=(), first=(), **limits):
         self.stack = contextlib.ExitStack()
         with self.stack:
             self.file = pathlib.Path(self.stack.enter_context(tempfile.TemporaryDirectory())) / "servers"
             self.servers = [self.new_server() for _ in range(count)]
-            self.names = [server.address for server in self.servers]
+            self.names = [*first, *(server.address for server in self.servers)]
             self.write(self.text())
             self.proxy = self.enter_proxy(words, **limits)
             self.stack = self.stack.pop_all()
@@ -189,6 +189,28 @@ def a_line_that_is_appended_joins():
         listed.is_said(f"{third.address} joined")
         keys_are_at_owners(listed, client, [*listed.servers, third], [*listed.names, third.address])
         nothing_is_said(listed.proxy)
+
+
+def who_waits_for_a_slow_server_is_served_by_one_that_joins():
+    """A client waits, since its key's server reads nothing, and much is unsent on its link. Once another server has joined that owns the
+    key, it is served."""
+    with contextlib.ExitStack() as stack:
+        slow = stack.enter_context(Played.Server())
+        listed = stack.enter_context(Listed(0, ["--timeout", "0"], first=[slow.address]))
+        stack.enter_context(slow.accept())
+        third = listed.new_server()
+        wider = Ring([slow.address, third.address])
+        put = stored(wider.key(0), b"v" * 1_000_000)[0]
+        moved = wider.key(1)
+        greedy, client = (stack.enter_context(listed.proxy.connected()) for _ in range(2))
+        greedy.settimeout(1)
+        with contextlib.suppress(TimeoutError):
+            while True:
+                greedy.sendall(put)
+        client.sendall(b"get %s\r\n" % moved)
+        nothing_comes(client)
+        listed.append(f"{third.address}\n")
+        want(received(client, 5), b"END\r\n")
 
 
 def two_lines_join_at_a_time():
@@ -426,6 +448,7 @@ def checks_of_lists():
         what_is_no_file_is_refused,
         a_list_and_words_are_refused,
         a_line_that_is_appended_joins,
+        who_waits_for_a_slow_server_is_served_by_one_that_joins,
         two_lines_join_at_a_time,
         an_address_is_taken_over,
         an_address_that_refuses_likewise_is_said,

@@ -48,6 +48,12 @@ pub struct ProxyLoop<'a> {
     woken: Woken,
     /// The places of the links that fell below their mark in this pass.
     freed: Vec<usize>,
+    /// The key at which the next search for clients that wait for a link begins, so that all of them have their turn.
+    resumed: usize,
+    /// Whether a link had unsent bytes at the last sweep.
+    unsent: bool,
+    /// Whether a server has joined since clients were last served for that.
+    joined: bool,
     /// Whether all bytes were carried, from clients to servers and back, as far as possible.
     carried: bool,
     /// The moment of the round, in milliseconds.
@@ -101,6 +107,9 @@ impl<'a> ProxyLoop<'a> {
             next: None,
             woken: Woken::with_capacity(alloc, MAX_SESSIONS)?,
             freed: Vec::with_capacity(alloc, SERVER_LIMIT)?,
+            resumed: 0,
+            unsent: false,
+            joined: false,
             carried: true,
             now: 0,
             second: 0,
@@ -124,6 +133,7 @@ impl<'a> ProxyLoop<'a> {
             || self.clients.goes_on()
             || self.operators.goes_on()
             || self.pool.is_stirred()
+            || self.has_joined()
             || (is_awaited && self.pool.is_tried())
     }
 
@@ -163,13 +173,16 @@ impl<'a> ProxyLoop<'a> {
         }
     }
 
-    /// Serves the clients whose requests wait for a link that fell below its mark, until each such link has reached its mark again.
+    /// Serves the clients whose requests wait for a link that fell below its mark, until each such link has reached its mark again. The next
+    /// time it begins with the client behind the last one that it looked at: otherwise a few could keep a slow server's link for themselves.
     fn resume(&mut self) {
-        for key in 0..MAX_SESSIONS {
+        for _ in 0..MAX_SESSIONS {
             let freed = self.freed.as_slice();
             if self.handler.are_marked(freed) {
                 break;
             }
+            let key = self.resumed % MAX_SESSIONS;
+            self.resumed = key + 1;
             if let Some(client) = self.clients.get_mut(key)
                 && self.handler.waits_for_any(client, freed)
             {
@@ -242,6 +255,7 @@ impl<'a> ProxyLoop<'a> {
         let joined = self.pool.join(&mut self.handler.proxy, server, true);
         if joined.is_ok() {
             self.pool.reconnect(rt, registry, self.now);
+            self.joined = true;
         }
         self.joining.note(joined);
     }
@@ -252,7 +266,23 @@ impl<'a> ProxyLoop<'a> {
         let Some(listing) = &mut self.listing else {
             return;
         };
+        let before = self.pool.len();
         if listing.look(rt, &mut self.pool, &mut self.handler.proxy, self.now) {
+            self.carried = false;
+            self.serve_all();
+        }
+        self.joined |= self.pool.len() > before;
+    }
+
+    /// Returns whether a server has joined and was tried, and clients are still to be served for that.
+    fn has_joined(&self) -> bool {
+        self.joined && self.pool.is_settled()
+    }
+
+    /// Serves all clients once a server that joined was tried: a request that waits for another link may be the new server's now.
+    fn follow_join(&mut self) {
+        if self.has_joined() {
+            self.joined = false;
             self.carried = false;
             self.serve_all();
         }
@@ -339,7 +369,10 @@ impl<'a, R: Net + Clock + Files + Print + EprintSeldom> LoopHandler<R, Stopwatch
         if backlog != Backlog::Nobody && self.is_full() {
             self.room.tell(rt, PROGRAM, self.second);
         }
-        let soon = self.clients.is_busy() || backlog.is_refused() || self.joining.is_due();
+        let soon = self.clients.is_busy()
+            || self.unsent
+            || backlog.is_refused()
+            || self.joining.is_due();
         poll_timeout(self.goes_on(backlog), soon, self.left())
     }
 
@@ -364,6 +397,7 @@ impl<'a, R: Net + Clock + Files + Print + EprintSeldom> LoopHandler<R, Stopwatch
     fn carry_on(&mut self, registry: &Registry) {
         self.pump_links();
         self.give_up();
+        self.follow_join();
         self.let_in(registry);
     }
 
@@ -388,7 +422,7 @@ impl<'a, R: Net + Clock + Files + Print + EprintSeldom> LoopHandler<R, Stopwatch
         self.rested = self.second;
         self.clients.sweep(&mut self.handler, self.second);
         let is_used = self.clients.is_busy();
-        self.pool.sweep(&mut self.handler.proxy, is_used);
+        self.unsent = self.pool.sweep(&mut self.handler.proxy, is_used);
         if self.ticker.comes(self.second) {
             self.report(rt, accepted);
         }

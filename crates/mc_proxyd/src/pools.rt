@@ -63,6 +63,11 @@ impl Upstreams {
         self.upstreams.iter().all(|upstream| upstream.tried)
     }
 
+    /// Returns whether each upstream is up, or its last try has failed.
+    pub fn is_settled(&self) -> bool {
+        self.upstreams.iter().all(Upstream::is_settled)
+    }
+
     /// Returns when something must be done for an upstream without an event, at the earliest.
     pub fn due(&self, now: u64) -> Option<u64> {
         self.upstreams.iter().fold(None, |due, upstream| {
@@ -205,12 +210,16 @@ impl Upstreams {
     }
 
     /// Frees the memory that the links' empty buffers have reserved: all of it or, while the links are used, what exceeds [`KEPT_ROOM`]
-    /// bytes. Once a second is enough: only then does a link with many large commands or replies reserve anew.
-    pub fn sweep(&self, proxy: &mut Proxy, is_used: bool) {
+    /// bytes. Once a second is enough: only then does a link with many large commands or replies reserve anew. The result is whether a link
+    /// has unsent bytes, so that its buffer is to be freed later.
+    pub fn sweep(&self, proxy: &mut Proxy, is_used: bool) -> bool {
         let kept = if is_used { KEPT_ROOM } else { 0 };
+        let mut unsent = false;
         for place in 0..self.upstreams.len() {
             proxy.link_give_back(place, kept);
+            unsent |= !proxy.link_output(place).is_empty();
         }
+        unsent
     }
 }
 

@@ -97,6 +97,11 @@ impl Upstream {
         matches!(self.state, State::Up(_))
     }
 
+    /// Returns whether the connection is established, or the last try has failed.
+    pub fn is_settled(&self) -> bool {
+        self.is_up() || self.failures > 0
+    }
+
     /// Returns whether its server is reported as up at a moment, with this number of pending commands. That is so if the connection is
     /// established, and a reply has arrived since commands were last lost, or nobody has asked since the connection was begun, some time ago. The
     /// system accepts connections even for a stopped process.

@@ -107,8 +107,12 @@ impl<S: Store + Drop> Handler<()> for ServerHandler<S> {
         self.counts.refuse(1);
     }
 
+    /// Ends a connection. What it gives back of the reserve's memory is taken again at once, before another client's new keys could take it.
     fn end(&mut self, number: u64) {
         let _ = self.server.close(number);
+        if !self.server.holds_reserve(self.reserve) {
+            let _ = self.server.keep_reserve(self.reserve);
+        }
     }
 
     fn serve(&mut self, client: &mut Client<()>, moment: u64) -> AfterPump {
