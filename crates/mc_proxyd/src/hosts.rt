@@ -173,23 +173,28 @@ impl<'a> ProxyLoop<'a> {
         }
     }
 
-    /// Serves the clients whose requests wait for a link that fell below its mark, until each such link has reached its mark again. The next
-    /// time it begins with the client behind the last one that it looked at: otherwise a few could keep a slow server's link for themselves.
+    /// Serves the clients whose requests wait for a link that fell below its mark, until each such link has reached its mark again.
     fn resume(&mut self) {
         for _ in 0..MAX_SESSIONS {
-            let freed = self.freed.as_slice();
-            if self.handler.are_marked(freed) {
-                break;
-            }
-            let key = self.resumed % MAX_SESSIONS;
-            self.resumed = key + 1;
-            if let Some(client) = self.clients.get_mut(key)
-                && self.handler.waits_for_any(client, freed)
-            {
-                self.clients.serve(&mut self.handler, key, self.second);
-            }
+            self.resume_next();
         }
         self.freed.clear();
+    }
+
+    /// Serves the next client, if its request waits for a link that fell below its mark, unless each such link has reached its mark again.
+    /// The client behind it is the next one, also at the next pass: otherwise a few could keep a slow server's link for themselves.
+    fn resume_next(&mut self) {
+        let freed = self.freed.as_slice();
+        if self.handler.are_marked(freed) {
+            return;
+        }
+        let key = self.resumed % MAX_SESSIONS;
+        self.resumed = key + 1;
+        if let Some(client) = self.clients.get_mut(key)
+            && self.handler.waits_for_any(client, freed)
+        {
+            self.clients.serve(&mut self.handler, key, self.second);
+        }
     }
 
     /// Serves the clients whose commands were answered.
@@ -267,11 +272,12 @@ impl<'a> ProxyLoop<'a> {
             return;
         };
         let before = self.pool.len();
-        if listing.look(rt, &mut self.pool, &mut self.handler.proxy, self.now) {
+        let is_lost = listing.look(rt, &mut self.pool, &mut self.handler.proxy, self.now);
+        self.joined |= self.pool.len() > before;
+        if is_lost {
             self.carried = false;
             self.serve_all();
         }
-        self.joined |= self.pool.len() > before;
     }
 
     /// Returns whether a server has joined and was tried, and clients are still to be served for that.
