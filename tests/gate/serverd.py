@@ -692,24 +692,26 @@ def without_memory_what_is_held_is_served(size, turns):
 
 
 def a_reserve_that_was_used_comes_back():
-    """Clients that read no answers use the reserve, for longer than new keys are refused for that. Once such a client is gone the reserve is
-    whole again, though another stores many new keys at that moment: the next one is served from it too."""
+    """Clients that read no answers use the reserve, for longer than new keys are refused for that. Once such a client is gone its memory is the
+    reserve's again, though another stores new keys at that moment: they are refused, and the next client is served from it too."""
     put, shown = b"set k 0 0 %d\r\n%s\r\n" % (LARGE, b"w" * LARGE), b"VALUE k 0 %d\r\n%s\r\nEND\r\n" % (LARGE, b"w" * LARGE)
-    with start_with_little("", "4M") as server, Filler(server) as filler, server.connected() as client:
+    with start_with_little("", "16M") as server, Filler(server) as filler, server.connected() as client:
         asked(client, put, b"STORED\r\n")
         for size in (5_000, 1_000):
             filler.fill(size)
-        for _ in range(8):
+        for _ in range(4):
             with server.connected() as slow:
-                slow.sendall(b"get k\r\n" * 12)
+                slow.sendall(b"get k\r\n" * 6)
                 time.sleep(2.2)
                 server.process.send_signal(signal.SIGSTOP)
             stores = b"".join(filler.store(3_000) for _ in range(300)) + b"version\r\n"
+            before = filler.refused
             sender = threading.Thread(target=filler.answered, args=(stores, b"VERSION 1.6.0\r\n"))
             sender.start()
             time.sleep(0.05)
             server.process.send_signal(signal.SIGCONT)
             sender.join()
+            want(filler.refused - before, 300)
             asked(client, b"get k\r\n", shown)
 
 
