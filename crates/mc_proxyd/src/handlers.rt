@@ -7,7 +7,7 @@ use mc_net::{AfterPump, Client, Guard, Handler, Input, PIECE_LEN, step_after};
 use mc_program::ServeError;
 use mc_proxy::{Losses, MAX_SESSIONS, Proxy};
 use mc_proxy_pump::{ClientTally, Pumped, is_owed, pump_answers, pump_client};
-use mc_ring::Ring;
+use mc_ring::{Ring, SERVER_LIMIT};
 use mc_stream::IoStats;
 use std::alloc::Global;
 use std::collections::HashMap;
@@ -58,12 +58,16 @@ impl ProxyHandler {
         self.keys.get(&session).copied()
     }
 
-    /// Returns whether the next request of a client waits for one of the links to the servers at some places. A request is read once for
-    /// each place, until the client is served: so requests that wait long cost little, however often a link falls below its mark.
-    pub fn waits_for_any(&self, client: &mut Client<ClientState>, places: &[usize]) -> bool {
+    /// Returns whether a client can go on, of which the next request may have waited for one of the links to the servers at some places. While
+    /// another link is at its mark, the request is read once for each place, until the client is served: so requests that wait long cost
+    /// little, however often a link falls below its mark.
+    pub fn can_resume(&self, client: &mut Client<ClientState>, places: &[usize]) -> bool {
+        if !self.is_any_marked() {
+            return self.proxy.can_turn(client.number);
+        }
         for place in places {
             let bit = bit_of(*place);
-            if client.kept.not_for & bit != 0 {
+            if client.kept.not_for & bit != 0 || is_marked(&self.proxy, *place) {
                 continue;
             }
             if self.proxy.waits_for(client.number, *place) {
@@ -72,6 +76,11 @@ impl ProxyHandler {
             client.kept.not_for |= bit;
         }
         false
+    }
+
+    /// Returns whether a link has reached its mark of unsent bytes.
+    fn is_any_marked(&self) -> bool {
+        (0..SERVER_LIMIT).any(|place| is_marked(&self.proxy, place))
     }
 
     /// Returns whether each of the links to the servers at some places has reached its mark of unsent bytes.

@@ -181,7 +181,8 @@ impl<'a> ProxyLoop<'a> {
         self.freed.clear();
     }
 
-    /// Serves the next client, if its request waits for a link that fell below its mark, unless each such link has reached its mark again.
+    /// Serves the next client, if its request may have waited for a link that fell below its mark, unless each such link has reached its mark
+    /// again.
     /// The client behind it is the next one, also at the next pass: otherwise a few could keep a slow server's link for themselves.
     fn resume_next(&mut self) {
         let freed = self.freed.as_slice();
@@ -191,7 +192,7 @@ impl<'a> ProxyLoop<'a> {
         let key = self.resumed % MAX_SESSIONS;
         self.resumed = key + 1;
         if let Some(client) = self.clients.get_mut(key)
-            && self.handler.waits_for_any(client, freed)
+            && self.handler.can_resume(client, freed)
         {
             self.clients.serve(&mut self.handler, key, self.second);
         }
