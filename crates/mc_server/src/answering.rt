@@ -31,7 +31,7 @@ use mc_reply::{
 };
 use mc_request::{Asked, Hides, MetaCommand, MetaForm, Update, key_bytes};
 use mc_request_reader::TakenSet;
-use mc_store::Store;
+use mc_store::{Hint, Store};
 use mc_text::{CODED_ROOM, VALUE_LIMIT, WordIter};
 use std::alloc::AllocError;
 
@@ -200,7 +200,7 @@ pub fn serve_within<S: Store + Drop>(
     Ok(true)
 }
 
-/// Serves a request at a moment, given guesses of the items of the next keys. The cache may take memory to store an item. Beside
+/// Serves a request at a moment, given hints of the next keys' slots. The cache may take memory to store an item. Beside
 /// that, it takes memory only for the block of a value that is stored under a stored key, and if there is none nothing has changed.
 pub fn serve<S: Store + Drop>(
     asked: &Asked<'_>,
@@ -232,8 +232,8 @@ pub fn serve<S: Store + Drop>(
             serve_update(update, hides, cache, ahead.next(), moment, output)?;
         }
         Asked::Meta { command, form } => {
-            let guess = ahead.next_for(form.coded);
-            serve_meta(command, form, hides, cache, guess, moment, output)?;
+            let hint = ahead.next_for(form.coded);
+            serve_meta(command, form, hides, cache, hint, moment, output)?;
         }
         Asked::MetaNoop => write_noop(output).unwrap(),
         Asked::Version => write_version(output).unwrap(),
@@ -246,12 +246,12 @@ pub fn serve<S: Store + Drop>(
     Ok(())
 }
 
-/// Serves a command that may change what is stored, given a guess of its key's item.
+/// Serves a command that may change what is stored, given a hint of its key's slot.
 fn serve_update<S: Store + Drop>(
     update: &Update<&[u8], &[u8]>,
     hides: Hides,
     cache: &mut Cache<S>,
-    guess: u32,
+    hint: Hint,
     moment: u64,
     output: &mut Vec<u8>,
 ) -> Result<(), AllocError>
@@ -265,7 +265,7 @@ fn serve_update<S: Store + Drop>(
     ensures cache_kept { OnErr result (cache.new ≡ cache.old) }
     ensures output_kept { OnErr result (output.new.items ≡ output.old.items) }
 {
-    let reply = cache.update_by(update, guess, moment)?;
+    let reply = cache.update(update, hint, moment)?;
     if !reply.is_hidden(hides) {
         write_line(&reply.with(b"".as_slice()), output).unwrap();
     }
@@ -309,13 +309,13 @@ fn hides_by(noreply: bool) -> Hides
     }
 }
 
-/// Serves a meta command by the word of its key, given a guess of its item. The value that it shows is read from the front of the cache.
+/// Serves a meta command by the word of its key, given a hint of its slot. The value that it shows is read from the front of the cache.
 fn serve_meta<S: Store + Drop>(
     command: &MetaCommand<&[u8], &[u8]>,
     form: &MetaForm<WordIter<'_>>,
     hides: Hides,
     cache: &mut Cache<S>,
-    guess: u32,
+    hint: Hint,
     moment: u64,
     output: &mut Vec<u8>,
 ) -> Result<(), AllocError>
@@ -330,7 +330,7 @@ fn serve_meta<S: Store + Drop>(
     ensures cache_kept { OnErr result (cache.new ≡ cache.old) }
     ensures output_kept { OnErr result (output.new.items ≡ output.old.items) }
 {
-    let reply = meta_reply(command, form.coded, cache, guess, moment)?;
+    let reply = meta_reply(command, form.coded, cache, hint, moment)?;
     if !reply.is_hidden(hides) {
         write_meta(
             command.word(),
@@ -343,12 +343,12 @@ fn serve_meta<S: Store + Drop>(
     Ok(())
 }
 
-/// Returns the cache's reply to a meta command by the word of its key, given a guess of its item. The value that it shows is first.
+/// Returns the cache's reply to a meta command by the word of its key, given a hint of its slot. The value that it shows is first.
 fn meta_reply<S: Store + Drop>(
     command: &MetaCommand<&[u8], &[u8]>,
     coded: bool,
     cache: &mut Cache<S>,
-    guess: u32,
+    hint: Hint,
     moment: u64,
 ) -> Result<Reply<()>, AllocError>
     requires moment { moment < 2 ^ 63 }
@@ -365,10 +365,10 @@ fn meta_reply<S: Store + Drop>(
     let mut room = [0; CODED_ROOM];
     match command {
         MetaCommand::Get { key, get } => {
-            Ok(cache.meta_get_by(key_bytes(coded, key, &mut room), guess, get, moment))
+            Ok(cache.meta_get(key_bytes(coded, key, &mut room), hint, get, moment))
         }
         MetaCommand::Update { update, show } => {
-            cache.meta_update_by(&update.said(coded, &mut room), guess, show, moment)
+            cache.meta_update(&update.said(coded, &mut room), hint, show, moment)
         }
     }
 }
@@ -391,16 +391,16 @@ pub fn serve_keys<S: Store + Drop>(
     ensures len { vec_len output.new ≤ vec_len output.old + (LINE_ROOM + keys_room KEY_ROOM keys.entry cache.old) }
 {
     for key in keys {
-        let guess = ahead.next();
-        serve_key(key, guess, exptime, with_cas, cache, moment, output);
+        let hint = ahead.next();
+        serve_key(key, hint, exptime, with_cas, cache, moment, output);
     }
     write_end(output).unwrap();
 }
 
-/// Serves a key of a retrieval command, given a guess of its item. The value that it shows is read from the front of the cache.
+/// Serves a key of a retrieval command, given a hint of its slot. The value that it shows is read from the front of the cache.
 fn serve_key<S: Store + Drop>(
     key: &[u8],
-    guess: u32,
+    hint: Hint,
     exptime: Option<i64>,
     with_cas: bool,
     cache: &mut Cache<S>,
@@ -418,7 +418,7 @@ fn serve_key<S: Store + Drop>(
     ensures shrinks { (other : List ℕ)
         → length (value_at other cache.new.items) ≤ length (value_at other cache.old.items) }
 {
-    let reply = cache.get_by(key, guess, exptime, with_cas, moment);
+    let reply = cache.get(key, hint, exptime, with_cas, moment);
     let reply = reply.with(cache.front_value());
     write_key(key, &reply, output).unwrap();
 }

@@ -7,7 +7,8 @@ ghost use Rattle.mc_table.specs.Chains.{IsBucketCount};
 ghost use Rattle.mc_table.specs.Slots.{tag_of};
 ghost use Rattle.mc_table.specs.Tables.{IsAt, IsNowhere};
 
-use crate::chains::{bucket_of, guess_all, search, stands_at, take_out};
+use crate::chains::{bucket_of, prefetch, search, stands_at, take_out};
+use crate::hints::Hint;
 use crate::slots::Slot;
 use std::alloc::{AllocError, AllocFailed, Global};
 use std::collections::hash_map::Equivalent;
@@ -70,42 +71,33 @@ impl<K: Eq + Hash, V, S: BuildHasher> HashIndex<K, V, S> {
         self.slots.len()
     }
 
-    /// Returns the index of the entry of a key.
+    /// Returns the index of the entry of a key. The slot of the hint is compared first.
     #[inline]
-    pub fn get_index_of<Q: Equivalent<K>>(&self, query: Q) -> Option<usize>
-        ensures found { IfSome result (λ index. IsAt (Q.equivalent query) self.now index) }
-        ensures none { IfNone result (IsNowhere (Q.equivalent query) self.now) }
-    {
-        search(&self.heads, &self.slots, tag_of(&self.hasher, query), query)
-    }
-
-    /// Returns the index of the entry of a key. `place` is a guess of its place: the entry there is compared first.
-    #[inline]
-    pub fn get_index_by<Q: Equivalent<K>>(&self, query: Q, place: u32) -> Option<usize>
+    pub fn get_index_of<Q: Equivalent<K>>(&self, query: Q, hint: Hint) -> Option<usize>
         ensures found { IfSome result (IsAt (Q.equivalent query) self.now) }
         ensures none { IfNone result (IsNowhere (Q.equivalent query) self.now) }
     {
-        if stands_at(&self.slots, place, query) {
-            return Some(place as usize - 1);
+        if stands_at(&self.slots, hint.slot, query) {
+            return Some(hint.slot as usize - 1);
         }
-        self.get_index_of(query)
+        search(&self.heads, &self.slots, tag_of(&self.hasher, query), query)
     }
 
-    /// Returns the tag of a key, which [`HashIndex::guess_all`] takes.
+    /// Returns the tag of a key, which [`HashIndex::prefetch`] takes.
     #[inline]
     pub fn tag<Q: Hash + Copy>(&self, key: Q) -> u32 {
         tag_of(&self.hasher, key)
     }
 
-    /// Writes a guess of the entry's place for each tag: its index plus one, or 0. An entry there may have another tag.
-    pub fn guess_all(&self, tags: &[u32], places: &mut [u32]) {
-        guess_all(&self.heads, &self.slots, tags, places);
+    /// Writes a hint of the slot of each tag. The entry there may have another tag.
+    pub fn prefetch(&self, tags: &[u32], hints: &mut [Hint]) {
+        prefetch(&self.heads, &self.slots, tags, hints);
     }
 
-    /// Returns the entry of a place, if there is one.
+    /// Returns the entry in the slot of a hint, if there is one.
     #[inline]
-    pub fn entry(&self, place: u32) -> Option<(&K, &V)> {
-        let slot = self.slots.get((place as usize).wrapping_sub(1))?;
+    pub fn entry(&self, hint: Hint) -> Option<(&K, &V)> {
+        let slot = self.slots.get((hint.slot as usize).wrapping_sub(1))?;
         Some((&slot.key, &slot.value))
     }
 

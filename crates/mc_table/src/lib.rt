@@ -1,11 +1,11 @@
 //! Three containers: a table of entries in the order of their last use, the hasher of its keys, and a list of things under rising numbers.
 //!
 //! A [`Table`] finds an entry by its key's hash, and knows which one was used most recently. [`Table::put`] and [`Table::put_front`] insert an entry
-//! in front. [`Table::peek`] and [`Table::peek_mru`] read one, and [`Table::get_mut`] brings one to the front to change it. [`Table::pop_entry`],
+//! in front. [`Table::find`] and [`Table::peek_mru`] read one, and [`Table::get_mut`] brings one to the front to change it. [`Table::pop_entry`],
 //! [`Table::pop_mru`] and [`Table::pop_lru`] remove one, and [`Table::clear`] removes all. Contracts say what each call leaves by the entries, most
-//! recent first, in std's words of a map and those of `specs/Tables.antt`. A caller that will look several keys up may prefetch them
-//! ([`Table::guess_all`]), which gives a guess of each key's entry. A caller that looks one up again has a guess from [`Table::find`]. Calls that
-//! take a guess ([`Table::get_mut_by`], [`Table::pop_entry_by`]) do what those without do, faster if the guess is right.
+//! recent first, in std's words of a map and those of `specs/Tables.antt`. A call that looks a key up takes a slot hint ([`Hint`]). A caller that
+//! looks the key up again has one from [`Table::find`], and a caller that will look several keys up gets theirs by prefetching them
+//! ([`Table::prefetch`]).
 //!
 //! The entries are in one vector (`chained.rt`), and each is in the chain of its hash's bucket (`chains.rt`). The last entry takes the place of
 //! a removed one. Their order is in links of its own (`orders.rt`), so a use writes to three links and moves no entry. Only `put` and
@@ -39,6 +39,7 @@
 
 mod chained;
 mod chains;
+mod hints;
 mod key_hashers;
 mod links;
 mod numbered;
@@ -49,6 +50,7 @@ mod tables;
 // A crate can name a table in a contract only if the types of its fields are exported.
 #[doc(hidden)]
 pub use chained::HashIndex;
+pub use hints::Hint;
 pub use key_hashers::{KeyHasher, SecretState};
 #[doc(hidden)]
 pub use links::LruNode;
