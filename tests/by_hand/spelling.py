@@ -1,14 +1,15 @@
 #!/usr/bin/env python3
-"""Prints the words of the pages that neither a spelling tool nor the project's own list knows.
+"""Prints the words of the pages that neither a spelling tool nor the project's own list knows, and what a tool for prose says of the pages.
 
-Usage: spelling.py [--words] [PAGE ..]      (README.md, CHANGELOG.md, docs/*.md; Debian: aspell and aspell-en, or hunspell and hunspell-en-gb)
+Usage: spelling.py [--words] [PAGE ..]      (README.md, CHANGELOG.md, docs/*.md; Debian: aspell and aspell-en, or hunspell and hunspell-en-gb;
+                                            python3-proselint)
 
 aspell is asked, or hunspell if there is no aspell, with British spelling. Code blocks, code spans, the targets of links, and words with a
 digit, a slash, a dot or an underscore in them are left out. tests/by_hand/spelling.words has the project's own words, one a line, in any
-case; what follows a `#` is a comment. A word of it that no page has is named too, if all pages are read.
+case; what follows a `#` is a comment. A word of it that no page has is named too, if all pages are read. proselint reads the same text.
 
-It prints PAGE:LINE: WORD for each word. --words prints the words of the pages instead, each once, and asks no tool. The last line is
-'N passed, M failed', one for each page, and one for the list if all pages are read.
+It prints PAGE:LINE: WORD for each word, and PAGE:LINE:COLUMN: and what is wrong for the prose. --words prints the words of the pages
+instead, each once, and asks no tool. The last line is 'N passed, M failed', two for each page, and one for the list if all pages are read.
 """
 import argparse
 import pathlib
@@ -29,6 +30,8 @@ COMMENT = re.compile(r"<!--.*?-->", re.DOTALL)
 TARGET = re.compile(r"\]\([^()\s]*\)")
 CHUNK = re.compile(r"[^\s|()\[\]<>*\"“”,;:!?=+–]+")
 WORD = re.compile(r"[A-Za-z]+(?:'[A-Za-z]+)?")
+# What proselint takes "from 65,536 bytes on" and "0x80" for.
+NOT_MEANT = ("dates_times.dates", "typography.symbols.multiplication_symbol")
 NO_WORD = re.compile(r"[\d/_@{}\\$%&~^#]|\w\.\w")
 
 
@@ -61,12 +64,16 @@ def blanked(found):
     return " " + "\n" * found.group().count("\n")
 
 
-def words_of(page):
-    """Words of a page, each with its line."""
+def text_of(page):
+    """The text of a page without code, and without the targets of links."""
     text = "\n".join(without_blocks(COMMENT.sub(blanked, page.read_text())))
     paragraphs = re.split(r"(\n\n+)", text)
-    text = "".join(SPAN.sub(blanked, paragraph) for paragraph in paragraphs)
-    for number, line in enumerate(TARGET.sub("] ", text).split("\n"), 1):
+    return TARGET.sub("] ", "".join(SPAN.sub(blanked, paragraph) for paragraph in paragraphs))
+
+
+def words_of(page):
+    """Words of a page, each with its line."""
+    for number, line in enumerate(text_of(page).split("\n"), 1):
         for chunk in CHUNK.findall(line):
             if not NO_WORD.search(chunk.rstrip(".'")):
                 yield from ((number, word) for word in WORD.findall(chunk.replace("’", "'")))
@@ -99,6 +106,16 @@ def is_right(page, words, unknown):
     return not bad
 
 
+def reads_well(page):
+    """Prints what proselint finds in a page, and returns whether that is nothing."""
+    text = re.sub(r" +", " ", text_of(page))
+    asked = subprocess.run(("proselint", "-"), input=text, stdout=subprocess.PIPE, text=True, check=False)
+    bad = [line.partition(":")[2] for line in asked.stdout.splitlines() if not any(rule in line for rule in NOT_MEANT)]
+    for line in bad:
+        print(f"{page.relative_to(TOP)}:{line}")
+    return not bad
+
+
 def all_are_used(own, words):
     """Prints each word of the list that no page has, and returns whether there is none."""
     unused = sorted(own - {word.lower() for word in words})
@@ -121,6 +138,9 @@ def main():
     own = own_words()
     unknown = {word for word in unknown_of(words) if word.lower() not in own}
     told = [is_right(page, found[page], unknown) for page in pages]
+    if not shutil.which("proselint"):
+        sys.exit("proselint is not installed: apt install python3-proselint")
+    told += [reads_well(page) for page in pages]
     if not asked.pages:
         told.append(all_are_used(own, words))
     return counted(told)
