@@ -24,8 +24,8 @@
 //! [`Room`] is how many clients the open files of a program allow, and a [`Listed`] which clients are connected, at most [`LIST_LEN`] at a
 //! time.
 //!
-//! A client is served once its first bytes are known not to be a stranger's ([`opening_of`]). It is read through a [`Guard`], which reads
-//! no line that shows a stranger ([`FirstLine`]). A stranger is closed, and a line on standard error says so ([`Clients::tell`]).
+//! A client is served once its first bytes are known not to be a stranger's ([`opening_of`]). It is read through a [`Guard`] ([`guarded`]), which
+//! reads no line that shows a stranger ([`FirstLine`]). A stranger is closed, and a line on standard error says so ([`Clients::tell`]).
 //!
 //! [`serve_rounds`] blocks, possibly for ever; of the other calls only those that print on standard error may. It is proved that they are
 //! safe, and that each except [`serve_rounds`] ends. It is proved too that no read of a [`Guard`] returns the whole first line of a
@@ -103,7 +103,7 @@ pub use budgets::STEPS;
 pub use clients::Clients;
 pub use conns::{LIST_LEN, Listed, Owed};
 pub use first_lines::FirstLine;
-pub use guards::Guard;
+pub use guards::{Guard, guarded};
 pub use handlers::{Client, Handler};
 pub use inputs::{Input, Readiness};
 pub use keeping::{CLIENT_KEEPALIVE, Keepalive, keep_alive, keep_alive_by};

@@ -6,7 +6,7 @@ ghost use Rattle.mc_pump.specs.Pumps.{Pumps};
 use crate::counts::StoreStats;
 use crate::options::PROGRAM;
 use crate::sides::{Received, Sent};
-use mc_net::{AfterPump, Client, Guard, Handler, Input, PIECE_LEN, step_after};
+use mc_net::{AfterPump, Client, Handler, PIECE_LEN, guarded, step_after};
 use mc_program::{EprintSeldom, OncePerSecond, Said};
 use mc_pump::{Pumped, Watch, pump_gathering};
 use mc_server::{AnswerLimit, Server, ServerError};
@@ -158,15 +158,9 @@ fn pump_client<S: Store + Drop>(
         None None None None client.old.ended client.new.ended watch.old.no_memory watch.new.no_memory }
     ensures number { client.new.number ≡ client.old.number }
 {
-    let mut input = Input {
-        stream: Received {
-            stream: Guard {
-                stream: &client.stream,
-                first: client.first,
-            },
-            failed: false,
-        },
-        readiness: client.readiness,
+    let mut input = Received {
+        stream: guarded(&client.stream, client.first, client.readiness),
+        failed: false,
     };
     let mut output = Sent {
         stream: &client.stream,
@@ -182,7 +176,7 @@ fn pump_client<S: Store + Drop>(
         moment,
         watch,
     );
-    client.readiness = input.readiness;
+    client.readiness = input.stream.readiness;
     client.first = input.stream.stream.first;
-    (pumped, input.stream.failed || output.failed)
+    (pumped, input.failed || output.failed)
 }
