@@ -1,7 +1,7 @@
 //! A server, its clients and its periodic tasks.
 ghost use Rattle.std.specs.Prelude.{◌<◌, ◌^◌};
 
-use crate::clocks::Seconds;
+use crate::clocks::SystemSeconds;
 use crate::counts::StoreStats;
 use crate::figures::show;
 use crate::handlers::ServerHandler;
@@ -20,6 +20,7 @@ use mio::net::TcpStream;
 use std::alloc::{AllocError, Global};
 use std::fs::Files;
 use std::rc::Rc;
+use std::rt::Clock;
 use std::time::Duration;
 
 /// A server, its clients and its periodic tasks: once in a second or less often it sweeps idle clients, and reports what it has done.
@@ -208,8 +209,10 @@ impl<'a, S: Store + Drop> ServerLoop<'a, S> {
     }
 }
 
-impl<R: Print + EprintSeldom + Files, C: Seconds, S: Store + Drop> LoopHandler<R, C>
-    for ServerLoop<'_, S> {
+impl<'a, R, S: Store + Drop> LoopHandler<R, SystemSeconds<'a, R>> for ServerLoop<'_, S>
+where
+    R: Print + EprintSeldom + Files + Clock,
+{
     fn ready(&mut self, rt: &R) {
         // Best effort: a failed write to standard output must not stop serving.
         let _ = println!(rt; "listening {}", self.listen);
@@ -231,7 +234,7 @@ impl<R: Print + EprintSeldom + Files, C: Seconds, S: Store + Drop> LoopHandler<R
         poll_timeout(goes_on, soon, left)
     }
 
-    fn begin(&mut self, _rt: &R, clock: &mut C) {
+    fn begin(&mut self, _rt: &R, clock: &mut SystemSeconds<'a, R>) {
         self.moment = clock.now();
         self.counts.come_to(self.moment);
         self.clients.go_on(&mut self.handler, self.moment);

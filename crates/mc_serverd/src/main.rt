@@ -8,7 +8,7 @@
 //! It accepts, reads, serves and writes the connections of its clients.
 //!
 //! [`serve`] serves the connections of a listener ([`bind`]) over one cache, with [`Settings`], at the moments of a clock
-//! ([`Seconds`], [`SystemSeconds`]). Its core is [`mc_pump::pump`], which carries one connection's bytes between a server and the two
+//! ([`SystemSeconds`]). Its core is [`mc_pump::pump`], which carries one connection's bytes between a server and the two
 //! sides of a stream, and has the law of one connection. [`command`] and [`Options`] are the command line of the program [`PROGRAM`].
 //!
 //! [`tell_memory`] reports how much memory a server with its settings may come to take. [`serve`] reports on standard error, at
