@@ -22,8 +22,8 @@ use Rattle.mc_registers.specs.Told.{Tells}
 use Rattle.mc_registers.proofs.GuaranteeLemmas.{cas_loses_nothing, reads_see_own_writes}
 use Rattle.mc_registers.proofs.HitLemmas.{quiet-misses, run-told, shown-fits}
 use Rattle.mc_world.specs.Logs.{Log, number_of, serves, taken_before}
-use Rattle.mc_world.proofs.LifeLemmas.{IsOfLife, life_of}
-use Rattle.mc_world.proofs.LogLemmas.{moments-count}
+use Rattle.mc_world.proofs.Log.LifeLemmas.{IsOfLife, life_of}
+use Rattle.mc_world.proofs.Log.LogLemmas.{moments-count}
 use Rattle.mc_linearizable.specs.Linearizable.{Became, ComesFirst, Executed, IsLinearizable, IsLinearizablePool}
 use Rattle.mc_linearizable.specs.Clients.{ClientsLoseNoCas, ClientsReadOwnWrites, ComesBetween, IsGet, IsInLife, MayHaveWritten, ShowsValue, StoresWhole, WasAnsweredBy, WasDone}
 use Rattle.mc_linearizable.proofs.SpelledLemmas.{IsHit, hit_read, number_read, number_same, refused_apart}

@@ -14,8 +14,8 @@ use Rattle.mc_registers.specs.Laws.{is_on}
 use Rattle.mc_registers.specs.Registers.{Done}
 use Rattle.mc_registers.specs.Told.{TellEach, Tells, on_key}
 use Rattle.mc_world.specs.Logs.{Log, in_life, taken_before}
-use Rattle.mc_world.proofs.LifeLemmas.{IsOfLife, got_in_life}
-use Rattle.mc_world.proofs.SiteLemmas.{get_past}
+use Rattle.mc_world.proofs.Log.LifeLemmas.{IsOfLife, got_in_life}
+use Rattle.mc_world.proofs.Site.SiteLemmas.{get_past}
 use Rattle.mc_linearizable.specs.Linearizable.{Executed, IsLinearizable}
 use Rattle.mc_linearizable.specs.Clients.{AreRising, AreTold, HasRun, IsAmong, IsInLife}
 

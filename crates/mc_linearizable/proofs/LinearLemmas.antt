@@ -21,8 +21,8 @@ use Rattle.mc_world.specs.Logs.{Log, before, in_life, number_of, puts, serves, t
 use Rattle.mc_world.specs.Runs.{Call, Calls}
 use Rattle.mc_world.specs.Steps.{GivesAccount}
 use Rattle.mc_world.specs.Worlds.{CourseState, WorldState, history_of, put_out_of, text_of, world_opened}
-use Rattle.mc_world.proofs.LogLemmas.{number-before}
-use Rattle.mc_world.proofs.RunLemmas.{calls_account}
+use Rattle.mc_world.proofs.Log.LogLemmas.{number-before}
+use Rattle.mc_world.proofs.Course.RunLemmas.{calls_account}
 use Rattle.mc_pool_laws.specs.Told.{IsToldBy}
 use Rattle.mc_pool_laws.proofs.PlaceLemmas.{before-front}
 use Rattle.mc_pool_laws.proofs.ToldLemmas.{known_at, told_by}

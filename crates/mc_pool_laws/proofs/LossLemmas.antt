@@ -16,8 +16,8 @@ use Rattle.mc_history.specs.declared.entries.Entry.{Entry}
 use Rattle.mc_history.specs.Histories.{tag_in}
 use Rattle.mc_world.specs.Accounts.{Accounts, IsToldLost, NotAnswered}
 use Rattle.mc_world.specs.Logs.{Log, before, is_up, loses, number_of, puts, serves, takes}
-use Rattle.mc_world.proofs.FollowLemmas.{nothing_lost, reply_known}
-use Rattle.mc_world.proofs.LogLemmas.{number-before, stays_up}
+use Rattle.mc_world.proofs.Log.FollowLemmas.{nothing_lost, reply_known}
+use Rattle.mc_world.proofs.Log.LogLemmas.{number-before, stays_up}
 use Rattle.mc_pool_laws.specs.Sent.{IsSent}
 use Rattle.mc_pool_laws.specs.Told.{HasEntry, HasOneEntry, IsToldBy, LinkHeld, WasAnswered}
 use Rattle.mc_pool_laws.proofs.PlaceLemmas.{before-front, earlier, puts_apart}

@@ -21,8 +21,8 @@ use Rattle.mc_world.specs.Accounts.{Accounts}
 use Rattle.mc_world.specs.Logs.{Log, number_of, restarts, serves}
 use Rattle.mc_world.specs.Steps.{GivesAccount}
 use Rattle.mc_world.specs.Worlds.{WorldState, history_of, put_out_of, text_of}
-use Rattle.mc_world.proofs.LifeLemmas.{whole_life}
-use Rattle.mc_world.proofs.LogLemmas.{moments-count}
+use Rattle.mc_world.proofs.Log.LifeLemmas.{whole_life}
+use Rattle.mc_world.proofs.Log.LogLemmas.{moments-count}
 use Rattle.mc_pool_laws.specs.Executions.{LookUp, commands_of, executed, sent_at, told_by, told_in, turns_of, with_command}
 use Rattle.mc_pool_laws.specs.OneMaps.{ActsAsOneMap, ArePlainlyOfOneMap}
 use Rattle.mc_pool_laws.proofs.MergeLemmas.{AreOwned, HaveTurns, merged-own, merged-owned, turns-count}

@@ -17,8 +17,8 @@ use Rattle.mc_history.specs.declared.entries.Entry.{Entry}
 use Rattle.mc_world.specs.Accounts.{Accounts}
 use Rattle.mc_world.specs.declared.logs.Logged.TheVariants.{Happened, Joined, Restarted}
 use Rattle.mc_world.specs.Logs.{IsRingAfter, Log, number_of}
-use Rattle.mc_world.proofs.LogEntryLemmas.{got_map, got_there}
-use Rattle.mc_world.proofs.LogLemmas.{number-before}
+use Rattle.mc_world.proofs.Log.EntryLemmas.{got_map, got_there}
+use Rattle.mc_world.proofs.Log.LogLemmas.{number-before}
 use Rattle.mc_pool_laws.proofs.OwnerLemmas.{taken-own}
 use Rattle.mc_pool_laws.specs.Executions.{command_sent, sent_at}
 use Rattle.mc_pool_laws.specs.OneMaps.{joins}

@@ -17,8 +17,8 @@ use Rattle.mc_world.specs.Accounts.{Accounts}
 use Rattle.mc_world.specs.Logs.{IsRingAfter, Log, before, loses, number_of, takes, turn_of, turns_of}
 use Rattle.mc_world.specs.declared.logs.Logged.{Logged}
 use Rattle.mc_world.specs.declared.logs.Logged.TheVariants.{Happened}
-use Rattle.mc_world.proofs.LogLemmas.{before-here}
-use Rattle.mc_world.proofs.LogOrderLemmas.{turns-none, turns-push, turns-taken}
+use Rattle.mc_world.proofs.Log.LogLemmas.{before-here}
+use Rattle.mc_world.proofs.Log.OrderLemmas.{turns-none, turns-push, turns-taken}
 use Rattle.mc_history.specs.declared.entries.Entry.{Entry}
 use Rattle.mc_pool_laws.specs.Followed.{AreSentBy, FollowsProxy, IsSentBy, TakesNext}
 use Rattle.mc_pool_laws.proofs.OneRing.{ring_one}

@@ -31,7 +31,7 @@ use Rattle.mc_world.specs.declared.events.Event.TheVariants.{ServerTurn}
 use Rattle.mc_world.specs.Accounts.{Account, Accounts, IsToldLost, NotAnswered, WasTaken}
 use Rattle.mc_world.specs.Logs.{IsRingAfter, Log, before, in_life, number_of, puts, serves, taken_before, takes}
 use Rattle.mc_world.specs.declared.logs.Logged.TheVariants.{Happened, Restarted}
-use Rattle.mc_world.proofs.LifeLemmas.{taken_past}
+use Rattle.mc_world.proofs.Log.LifeLemmas.{taken_past}
 use Rattle.mc_history.specs.declared.entries.Entry.{Entry}
 use Rattle.mc_history.specs.Histories.{HasReply, IsLegal, tag_in}
 use Rattle.mc_pool_laws.specs.Sent.{IsReplayed}

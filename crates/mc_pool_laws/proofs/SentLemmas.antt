@@ -19,10 +19,10 @@ use Rattle.mc_history.specs.declared.entries.Entry.{Entry}
 use Rattle.mc_history.specs.Histories.{IsLegal, tag_in}
 use Rattle.mc_world.specs.Accounts.{Accounts}
 use Rattle.mc_world.specs.Logs.{Log, in_life, number_of, puts, serves, taken_before, takes}
-use Rattle.mc_world.proofs.LogEntryLemmas.{got_inside, got_map, got_some, got_there}
-use Rattle.mc_world.proofs.LifeLemmas.{got_in_life, life_of}
-use Rattle.mc_world.proofs.LogLemmas.{moments-count, number-before}
-use Rattle.mc_world.proofs.LogOrderLemmas.{turns-taken}
+use Rattle.mc_world.proofs.Log.EntryLemmas.{got_inside, got_map, got_some, got_there}
+use Rattle.mc_world.proofs.Log.LifeLemmas.{got_in_life, life_of}
+use Rattle.mc_world.proofs.Log.LogLemmas.{moments-count, number-before}
+use Rattle.mc_world.proofs.Log.OrderLemmas.{turns-taken}
 use Rattle.mc_pool_laws.specs.Sent.{IsReplayed, IsSent, IsTaken}
 use Rattle.mc_pool_laws.proofs.OneRing.{ring_one}
 

@@ -25,7 +25,7 @@ use Rattle.mc_world.specs.Accounts.{WasTaken}
 use Rattle.mc_world.specs.Logs.{IsRingAfter, Log, before, loses, number_of, serves, takes}
 use Rattle.mc_world.specs.declared.logs.Logged.{Logged}
 use Rattle.mc_world.specs.declared.logs.Logged.TheVariants.{Happened}
-use Rattle.mc_world.proofs.LogLemmas.{IsEvent}
+use Rattle.mc_world.proofs.Log.LogLemmas.{IsEvent}
 use Rattle.mc_history.specs.declared.entries.Entry.{Entry}
 use Rattle.mc_history.specs.Histories.{IsLegal, tag_in}
 use Rattle.mc_history.specs.Named.{tags_of}

@@ -21,7 +21,7 @@ use Rattle.mc_account.specs.Orders.{IsSized, Order, TakenRequest, entries_of, is
 use Rattle.mc_history.specs.declared.entries.Entry.{Entry}
 use Rattle.mc_world.specs.Accounts.{Accounts, answers_by}
 use Rattle.mc_world.specs.Logs.{Log, number_of, puts}
-use Rattle.mc_world.proofs.LogEntryLemmas.{got_inside, got_some}
+use Rattle.mc_world.proofs.Log.EntryLemmas.{got_inside, got_some}
 use Rattle.mc_pool_laws.specs.Told.{AreAnswersFrom, AreToldBy, IsAnswerTo, IsToldBy, WasAnswered}
 use Rattle.mc_pool_laws.proofs.SentLemmas.{entry_taken, in_request, puts_few}
 
