@@ -30,8 +30,8 @@ use Rattle.mc_cache.specs.CacheState.{CacheState}
 use Rattle.mc_account.specs.Lookups.{asked_at, command_at, outcome_at}
 use Rattle.mc_account.specs.Orders.{AreInOrder, IsSized, Order, TakenRequest, commands_to, entries_of, is_complete}
 use Rattle.mc_world.specs.declared.events.Event.TheVariants.{Emit}
-use Rattle.mc_world.specs.Accounts.{Accounts, NotAnswered, WasTaken}
-use Rattle.mc_world.specs.Logs.{IsRingAfter, Log, before, in_life, loses, moments_of, number_of, puts, serves, taken_before, takes, turns_of}
+use Rattle.mc_world.specs.Accounts.{Accounts, TakenBeforeAnswered}
+use Rattle.mc_world.specs.Logs.{IsRingAfter, Log, before, in_life, loses, moments_of, number_of, puts, taken_before, takes, turns_of}
 use Rattle.mc_world.specs.declared.logs.Logged.{Logged}
 use Rattle.mc_world.specs.declared.logs.Logged.TheVariants.{Happened}
 use Rattle.mc_history.specs.declared.entries.Entry.{Entry}
@@ -132,12 +132,6 @@ pub no_history : (place k : ℕ) (e : Entry) → slice_get (two_histories [] [] 
 no_history = by_place (λ place. (k : ℕ) (e : Entry) → slice_get (two_histories [] [] place) k ≡ Some e → ⊥) none_there none_there
     (λ place differ neither k e at. else_there [] [] place k e differ neither at)
 
--- a command was taken before its turn, and answered after it if its reply was taken
-abbrev pub IsPlacedAt : Order → Log → ℕ → ℕ → Entry → Type 0
-IsPlacedAt order log place k e =
-    WasTaken (tag_in e) (before (serves place) k log)
-    × ((reply : AReply (List ℕ)) → outcome_at order (tag_in e) ≡ Some (outcomes.Reply reply) → NotAnswered (tag_in e) (before (serves place) k log))
-
 -- the entries whose replies were taken are in the order of their requests
 abbrev pub AreRisen : Order → ℕ → List Entry → Type 0
 AreRisen order low [] = Unit {0}
@@ -210,8 +204,8 @@ pub record IsSmall (ring : RingState) (opening : CacheState) (order : Order) (te
   pub numbers : ℕ → ℕ
   pub first_sites : Each (λ (k : ℕ) (e : Entry). (places e.request ≡ 0) × (numbers e.request ≡ k)) 0 first
   pub second_sites : Each (λ (k : ℕ) (e : Entry). (places e.request ≡ 1) × (numbers e.request ≡ k)) 0 second
-  pub first_placed : Each (IsPlacedAt order log 0) 0 first
-  pub second_placed : Each (IsPlacedAt order log 1) 0 second
+  pub first_placed : Each (TakenBeforeAnswered order log 0) 0 first
+  pub second_placed : Each (TakenBeforeAnswered order log 1) 0 second
   pub first_risen : AreRisen order 0 first
   pub second_risen : AreRisen order 0 second
   pub first_lost : number_of (loses 0) log ≡ 0 → first ≡ []
@@ -294,11 +288,11 @@ sites_by ring opening order text first second log h =
     (λ place differ neither k e at. absurd (else_there first second place k e differ neither at))
 
 placed_by : (ring : RingState) (opening : CacheState) (order : Order) (text : List ℕ) (first second : List Entry) (log : Log) → IsSmall ring opening order text first second log
-    → (place k : ℕ) (e : Entry) → slice_get (two_histories first second place) k ≡ Some e → IsPlacedAt order log place k e
+    → (place k : ℕ) (e : Entry) → slice_get (two_histories first second place) k ≡ Some e → TakenBeforeAnswered order log place k e
 placed_by ring opening order text first second log h =
-    by_place (λ place. (k : ℕ) (e : Entry) → slice_get (two_histories first second place) k ≡ Some e → IsPlacedAt order log place k e)
-    (λ k e at. each_of (IsPlacedAt order log 0) first h.first_placed k e at)
-    (λ k e at. each_of (IsPlacedAt order log 1) second h.second_placed k e at)
+    by_place (λ place. (k : ℕ) (e : Entry) → slice_get (two_histories first second place) k ≡ Some e → TakenBeforeAnswered order log place k e)
+    (λ k e at. each_of (TakenBeforeAnswered order log 0) first h.first_placed k e at)
+    (λ k e at. each_of (TakenBeforeAnswered order log 1) second h.second_placed k e at)
     (λ place differ neither k e at. absurd (else_there first second place k e differ neither at))
 
 ordered_by : (ring : RingState) (opening : CacheState) (order : Order) (text : List ℕ) (first second : List Entry) (log : Log) → IsSmall ring opening order text first second log

@@ -45,6 +45,12 @@ WasLost place tag log =
 abbrev pub IsToldLost : ℕ → Tag → List Entry → Log → Type 0
 IsToldLost place tag history log = (down_when_taken place tag log × HasNone history tag) ⊎ (up_when_taken place tag log × WasLost place tag log)
 
+-- an entry of a history: its request was taken before its turn, and not answered before it, if a reply answered its command
+abbrev pub TakenBeforeAnswered : Order → Log → ℕ → ℕ → Entry → Type 0
+TakenBeforeAnswered order log place k e =
+    WasTaken (tag_in e) (before (serves place) k log)
+    × ((reply : AReply (List ℕ)) → outcome_at order (tag_in e) ≡ Some (Reply reply) → NotAnswered (tag_in e) (before (serves place) k log))
+
 -- the answers to requests that were taken, joined, by a choice for lost commands
 abbrev pub answers_by : Losses → Order → List ℕ
 answers_by losses [] = []
@@ -79,12 +85,9 @@ pub record Accounts (losses : Losses) (ring : RingState) (opening : CacheState) 
   pub answered : (client : ℕ) → list_all is_complete (take (number_of (puts client) log) (entries_of client order)) ≡ true
   pub put : (client : ℕ) → outs client ≡ answers_by losses (take (number_of (puts client) log) (entries_of client order))
   pub after : (client request : ℕ) → request < number_of (puts client) log → request < number_of (takes client) (before (puts client) request log)
-  -- a history has one entry for each turn of its server, at its moment; its request was taken before, and answered after if its command was
-  -- answered
+  -- a history has one entry for each turn of its server, at its moment
   pub moments : (place : ℕ) → map (λ (e : Entry). e.moment) (histories place) ≡ moments_of place log
-  pub placed : (place k : ℕ) (e : Entry) → slice_get (histories place) k ≡ Some e
-      → WasTaken (tag_in e) (before (serves place) k log)
-      × ((reply : AReply (List ℕ)) → outcome_at order (tag_in e) ≡ Some (Reply reply) → NotAnswered (tag_in e) (before (serves place) k log))
+  pub placed : (place k : ℕ) (e : Entry) → slice_get (histories place) k ≡ Some e → TakenBeforeAnswered order log place k e
 
 -- the account: such an order exists
 abbrev pub Account : Losses → RingState → CacheState → (ℕ → List ℕ) → (ℕ → List ℕ) → (ℕ → List Entry) → Log → Type 0
