@@ -28,7 +28,7 @@ use Rattle.mc_history.specs.Histories.{tag_in}
 use Rattle.mc_registers.specs.Registers.{Done, IsRun}
 use Rattle.mc_registers.specs.Laws.{is_on}
 use Rattle.mc_registers.specs.Told.{TellEach, on_key}
-use Rattle.mc_world.specs.Accounts.{Accounts, IsToldLost, answers_by}
+use Rattle.mc_world.specs.Accounts.{Accounts, WasNeverSentOrLost, answers_by}
 use Rattle.mc_world.specs.Logs.{Log, before, in_life, moments_of, number_of, puts, takes, turns_of}
 use Rattle.mc_world.specs.Worlds.{WorldState, cache_of, history_of, put_out_of, text_of}
 use Rattle.mc_pool_laws.specs.Told.{IsToldBy, WasAnswered}
@@ -60,7 +60,7 @@ WasReplied order tag = (reply : AReply (List ℕ)) × (outcome_at order tag ≡ 
 abbrev pub Became : Order → (ℕ → List Entry) → Log → List ℕ → Tag → ℕ → Atom (List ℕ) → Outcome → Type 0
 Became order histories log key tag place atom (Reply reply) =
     (x : Executed order histories key) × (tag_in x.entry ≡ tag) × (x.entry.reply ≡ spelling_of atom reply)
-Became order histories log key tag place atom Lost = IsToldLost place tag (histories place) log
+Became order histories log key tag place atom Lost = WasNeverSentOrLost place tag (histories place) log
 Became order histories log key tag place atom Awaited = ⊥
 
 -- Of these entries those on a key are a run of its register. The register holds nothing at first, and answers each command what its entry has.

@@ -29,7 +29,7 @@ use Rattle.mc_proxy.specs.Emits.{answer_by}
 use Rattle.mc_proxy.specs.Sending.{tag_of}
 use Rattle.mc_history.specs.declared.entries.Entry.{Entry}
 use Rattle.mc_history.specs.Histories.{HasReply}
-use Rattle.mc_world.specs.Accounts.{IsToldLost}
+use Rattle.mc_world.specs.Accounts.{WasNeverSentOrLost}
 use Rattle.mc_world.specs.Logs.{Log}
 use Rattle.mc_pool_laws.specs.Choices.{HaveReplies, ShowReplies, ShowsReply}
 use Rattle.mc_pool_laws.specs.Told.{AreToldBy, IsAnswerTo, IsToldBy}
@@ -106,7 +106,7 @@ abbrev ShowsMeta : RingState → (ℕ → List Entry) → Log → ℕ → ℕ �
 ShowsMeta ring histories log client request key get form answer =
     ((reply : AReply (List ℕ)) × (answer ≡ answer_of (Meta (metas.Get key get) form) (reply ∷ []))
     × HasReply (histories (owner_in ring key)) (tag_of client request 0) (meta_spelling reply))
-    ⊎ ((answer ≡ (if form.quiet then [] else codes "EN\r\n")) × IsToldLost (owner_in ring key) (tag_of client request 0) (histories (owner_in ring key)) log)
+    ⊎ ((answer ≡ (if form.quiet then [] else codes "EN\r\n")) × WasNeverSentOrLost (owner_in ring key) (tag_of client request 0) (histories (owner_in ring key)) log)
 
 meta_by : (ring : RingState) (histories : ℕ → List Entry) (log : Log) (client request : ℕ) (key : List ℕ) (get : MetaGet) (form : MetaForm (List (List ℕ)))
     (outcomes : List Outcome) → AreToldBy histories log client request 0 (to_owner ring key (atoms.Meta (metas.Get key get)) ∷ []) outcomes

@@ -36,7 +36,7 @@ use Rattle.mc_cache.specs.CacheState.{opening_cache}
 use Rattle.mc_account.specs.Lookups.{IsBefore, asked_at, command_at, outcome_at}
 use Rattle.mc_account.specs.Orders.{AreInOrder, IsSized, Order, TakenRequest, is_complete}
 use Rattle.mc_world.specs.declared.events.Event.TheVariants.{ServerTurn}
-use Rattle.mc_world.specs.Accounts.{Account, Accounts, IsToldLost, NotAnswered, WasTaken}
+use Rattle.mc_world.specs.Accounts.{Account, Accounts, NotAnswered, WasNeverSentOrLost, WasTaken}
 use Rattle.mc_world.specs.Logs.{IsRingAfter, Log, before, number_of, puts, serves, takes}
 use Rattle.mc_world.specs.declared.logs.Logged.TheVariants.{Happened}
 use Rattle.mc_history.specs.declared.entries.Entry.{Entry}
@@ -292,7 +292,7 @@ never_sent tag is k e at same =
     ]
 
 abbrev IsNotSent : ℕ → Tag → Type 0
-IsNotSent place tag = IsToldLost place tag (first_only taken_two place) three_log
+IsNotSent place tag = WasNeverSentOrLost place tag (first_only taken_two place) three_log
 
 lost_by : (tag : Tag) (place : ℕ) (atom : Atom (List ℕ)) → command_at three tag ≡ Some (to_place place atom) → outcome_at three tag ≡ Some outcomes.Lost
     → IsNotSent place tag

@@ -28,7 +28,7 @@ use Rattle.mc_cache.specs.Step.{step_of}
 use Rattle.mc_account.specs.Lookups.{IsBefore, asked_at, command_at, outcome_at}
 use Rattle.mc_account.specs.Orders.{AreInOrder, IsSized, Order, TakenRequest, is_complete}
 use Rattle.mc_world.specs.declared.events.Event.TheVariants.{ServerTurn}
-use Rattle.mc_world.specs.Accounts.{Account, Accounts, IsToldLost, NotAnswered, WasTaken}
+use Rattle.mc_world.specs.Accounts.{Account, Accounts, NotAnswered, WasNeverSentOrLost, WasTaken}
 use Rattle.mc_world.specs.Logs.{IsRingAfter, Log, before, in_life, number_of, puts, serves, taken_before, takes}
 use Rattle.mc_world.specs.declared.logs.Logged.TheVariants.{Happened, Restarted}
 use Rattle.mc_world.proofs.Log.LifeLemmas.{taken_past}
@@ -172,7 +172,7 @@ replied_by tag place atom reply at became =
     ]
 
 lost_by : (tag : Tag) (place : ℕ) (atom : Atom (List ℕ)) → command_at restart_order tag ≡ Some (to_place place atom)
-    → outcome_at restart_order tag ≡ Some outcomes.Lost → IsToldLost place tag (first_only restart_history place) restart_log
+    → outcome_at restart_order tag ≡ Some outcomes.Lost → WasNeverSentOrLost place tag (first_only restart_history place) restart_log
 lost_by tag place atom at became =
     let k = known tag place atom outcomes.Lost at became in
     elim k.which [

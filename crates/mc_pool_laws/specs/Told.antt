@@ -13,7 +13,7 @@ use Rattle.mc_proxy.specs.Emits.{answer_by}
 use Rattle.mc_proxy.specs.Sending.{tag_of}
 use Rattle.mc_history.specs.declared.entries.Entry.{Entry}
 use Rattle.mc_history.specs.Histories.{HasReply, tag_in}
-use Rattle.mc_world.specs.Accounts.{IsToldLost, WasLost}
+use Rattle.mc_world.specs.Accounts.{WasLost, WasNeverSentOrLost}
 use Rattle.mc_world.specs.Logs.{Log, number_of, puts}
 use Rattle.mc_pool_laws.specs.Sent.{IsSent, IsTaken}
 
@@ -42,12 +42,12 @@ pub record IsUnaccounted (opening : RingState) (texts : ℕ → List ℕ) (histo
   pub command : Routed
   pub sent : IsSent opening texts log tag command
   pub answered : WasAnswered tag log
-  pub untold : HasEntry (histories command.server) tag ⊎ IsToldLost command.server tag (histories command.server) log → ⊥
+  pub untold : HasEntry (histories command.server) tag ⊎ WasNeverSentOrLost command.server tag (histories command.server) log → ⊥
 
 -- the outcome of a command: its server's history has its entry with this reply, or it is lost, and the log shows the loss
 abbrev pub IsToldBy : (ℕ → List Entry) → Log → Tag → Routed → Outcome → Type 0
 IsToldBy histories log tag command (Reply reply) = HasReply (histories command.server) tag (spelling_of command.atom reply)
-IsToldBy histories log tag command Lost = IsToldLost command.server tag (histories command.server) log
+IsToldBy histories log tag command Lost = WasNeverSentOrLost command.server tag (histories command.server) log
 IsToldBy histories log tag command Awaited = ⊥
 
 -- the outcomes of the commands of one request, in sequence, the first of which has this number

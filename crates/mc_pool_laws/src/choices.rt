@@ -20,7 +20,7 @@ ghost use Rattle.mc_proxy.specs.Sending.{tag_of};
 ghost use Rattle.mc_cache.specs.CacheState.{opening_cache};
 ghost use Rattle.mc_history.specs.Histories.{HasReply};
 ghost use Rattle.mc_history.specs.declared.entries.Entry.{Entry};
-ghost use Rattle.mc_world.specs.Accounts.{Account, IsToldLost};
+ghost use Rattle.mc_world.specs.Accounts.{Account, WasNeverSentOrLost};
 ghost use Rattle.mc_world.specs.Logs.{Log};
 ghost use Rattle.mc_pool_laws.specs.Choices.{HaveReplies, ShowReplies};
 ghost use Rattle.mc_pool_laws.specs.Told.{IsAnswerTo};
@@ -42,7 +42,7 @@ pub fn shown_values_are_replies()
         → ((reply : Reply (List ℕ)) × (answer ≡ answer_of (Meta (metas.Get key get) form) (reply ∷ []))
         × HasReply (histories (owner_in h.ring key)) (tag_of client request 0) (meta_spelling reply))
         ⊎ ((answer ≡ (if form.quiet then [] else codes "EN\r\n"))
-        × IsToldLost (owner_in h.ring key) (tag_of client request 0) (histories (owner_in h.ring key)) log) }
+        × WasNeverSentOrLost (owner_in h.ring key) (tag_of client request 0) (histories (owner_in h.ring key)) log) }
 {}
 
 /// Nothing is reported as done that has no entry. The answer to a request that is no retrieval is made of the replies of its servers, as their

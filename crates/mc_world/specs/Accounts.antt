@@ -42,8 +42,8 @@ WasLost place tag log =
 
 -- what a log shows of a command that is lost: it was never sent, since its link was down when it was taken, or its link was lost before it
 -- was answered
-abbrev pub IsToldLost : ℕ → Tag → List Entry → Log → Type 0
-IsToldLost place tag history log = (down_when_taken place tag log × HasNone history tag) ⊎ (up_when_taken place tag log × WasLost place tag log)
+abbrev pub WasNeverSentOrLost : ℕ → Tag → List Entry → Log → Type 0
+WasNeverSentOrLost place tag history log = (down_when_taken place tag log × HasNone history tag) ⊎ (up_when_taken place tag log × WasLost place tag log)
 
 -- an entry of a history: its request was taken before its turn, and not answered before it, if a reply answered its command
 abbrev pub TakenBeforeAnswered : Order → Log → ℕ → ℕ → Entry → Type 0
@@ -75,7 +75,7 @@ pub record Accounts (losses : Losses) (ring : RingState) (opening : CacheState) 
       → outcome_at order tag ≡ Some (Reply reply) → HasReply (histories place) tag (spelling_of atom reply)
   -- a lost command was never sent, or its link was lost before it was answered
   pub lost : (tag : Tag) (place : ℕ) (atom : Atom (List ℕ)) → command_at order tag ≡ Some (to_place place atom) → outcome_at order tag ≡ Some Lost
-      → IsToldLost place tag (histories place) log
+      → WasNeverSentOrLost place tag (histories place) log
   -- in a history the commands of one client that were answered are in its order
   pub ordered : (place j k : ℕ) (d e : Entry) (r q : AReply (List ℕ)) → slice_get (histories place) j ≡ Some d → slice_get (histories place) k ≡ Some e → j < k
       → d.client ≡ e.client → outcome_at order (tag_in d) ≡ Some (Reply r) → outcome_at order (tag_in e) ≡ Some (Reply q) → IsBefore (tag_in d) (tag_in e)

@@ -13,7 +13,7 @@ use Rattle.mc_account.specs.Lookups.{IsBefore, IsRoutedWithin, asked_at, command
 use Rattle.mc_account.specs.Orders.{Order, TakenRequest}
 use Rattle.mc_history.specs.Histories.{tag_in}
 use Rattle.mc_history.specs.declared.entries.Entry.{Entry}
-use Rattle.mc_world.specs.Accounts.{IsToldLost, NotAnswered, WasTaken, up_when_taken}
+use Rattle.mc_world.specs.Accounts.{NotAnswered, WasNeverSentOrLost, WasTaken, up_when_taken}
 use Rattle.mc_world.specs.Logs.{IsRingAfter, Log, before, is_up, moments_of, number_of, puts, serves, takes, turns_of}
 use Rattle.mc_world.specs.WorldState.{PoolState, SiteState, StaleState, histories_of}
 
@@ -22,7 +22,7 @@ use Rattle.mc_world.specs.WorldState.{PoolState, SiteState, StaleState, historie
 abbrev pub IsTold : ℕ → Tag → List Entry → Log → Outcome → Type 0
 IsTold place tag history log Awaited = up_when_taken place tag log
 IsTold place tag history log (Reply reply) = Unit {0}
-IsTold place tag history log Lost = IsToldLost place tag history log
+IsTold place tag history log Lost = WasNeverSentOrLost place tag history log
 
 -- an entry of a history was made after its request was taken, and before that was answered, unless its command is lost
 pub record IsPlaced (order : Order) (earlier : Log) (e : Entry) : Type 0 where

@@ -29,7 +29,7 @@ use Rattle.mc_history.specs.Histories.{tag_in}
 use Rattle.mc_history.specs.Made.{Made, commands_on, entry_of, made_on, taking_of}
 use Rattle.mc_history.specs.Named.{tags_of, times}
 use Rattle.mc_history.specs.declared.entries.Entry.{Entry}
-use Rattle.mc_world.specs.Accounts.{IsToldLost}
+use Rattle.mc_world.specs.Accounts.{WasNeverSentOrLost}
 use Rattle.mc_world.specs.CourseHolds.{HaveOneConnection}
 use Rattle.mc_world.specs.LogHolds.{LogHolds}
 use Rattle.mc_world.specs.Logs.{Log, loses, number_of}
@@ -194,7 +194,7 @@ no_past [] none = refl
 no_past (m ∷ ms) none = absurd (omega (arith, none))
 
 -- if a link is never lost, no command to its server is logged as lost
-pub nothing_lost : (place : ℕ) (tag : Tag) (history : List Entry) (log : Log) → number_of (loses place) log ≡ 0 → IsToldLost place tag history log → ⊥
+pub nothing_lost : (place : ℕ) (tag : Tag) (history : List Entry) (log : Log) → number_of (loses place) log ≡ 0 → WasNeverSentOrLost place tag history log → ⊥
 nothing_lost place tag history log none (inl down) = grind (arith, true≢false, number-before, stays_up)
 nothing_lost place tag history log none (inr lost) = grind arith
 
