@@ -23,6 +23,10 @@ pub record Lane : Type 0 where
 abbrev pub fresh_lane : ℕ → Lane
 fresh_lane since = record { since = since; replies = []; out = []; came = [] }
 
+-- the commands that were sent on a lane: those to its server, of all requests that were taken since its link came up, in that order
+abbrev pub sent_on : ℕ → Order → Lane → List Tagged
+sent_on place order lane = commands_to place (drop lane.since order)
+
 -- the spellings of commands, joined
 abbrev pub spelled : List Tagged → List ℕ
 spelled [] = []
@@ -49,10 +53,10 @@ as_waiting commands = map (λ command. (head_of command.0, command.1)) commands
 -- unread bytes. The commands without a reply are pending. No earlier command to it is pending.
 pub record LaneHolds (place : ℕ) (order : Order) (lane : Lane) (link : LinkState) : Type 0 where
   pub since : lane.since ≤ length order
-  pub put : lane.out ++ link.output ≡ spelled (commands_to place (drop lane.since order))
-  pub came : lane.came ≡ told (commands_to place (drop lane.since order)) lane.replies ++ link.unread
-  pub can : CanHave (commands_to place (drop lane.since order)) lane.replies
-  pub waiting : link.waiting ≡ as_waiting (drop (length lane.replies) (commands_to place (drop lane.since order)))
+  pub put : lane.out ++ link.output ≡ spelled (sent_on place order lane)
+  pub came : lane.came ≡ told (sent_on place order lane) lane.replies ++ link.unread
+  pub can : CanHave (sent_on place order lane) lane.replies
+  pub waiting : link.waiting ≡ as_waiting (drop (length lane.replies) (sent_on place order lane))
   pub outcomes : outcomes_to place (drop lane.since order) ≡ map (λ reply. Reply reply) lane.replies ++ map (λ _. Awaited) link.waiting
   pub before : list_all is_told (outcomes_to place (take lane.since order)) ≡ true
 

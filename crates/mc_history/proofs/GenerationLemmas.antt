@@ -20,10 +20,10 @@ use Rattle.mc_link.specs.Turns.{HasStrange}
 use Rattle.mc_server.specs.ServerState.{ConnectionState}
 use Rattle.mc_server.specs.Holds.{Holds}
 use Rattle.mc_cache.specs.CacheState.{CacheState}
-use Rattle.mc_account.specs.Lanes.{CanHave, Lane, as_waiting, spelled, told}
+use Rattle.mc_account.specs.Lanes.{CanHave, Lane, as_waiting, sent_on, spelled, told}
 use Rattle.mc_account.specs.Orders.{Order, Tagged}
 use Rattle.mc_account.proofs.LaneLemmas.{can-append, told-append}
-use Rattle.mc_history.specs.Generations.{AreJoined, IsCarried, IsFront, commands_of_lane, is_good}
+use Rattle.mc_history.specs.Generations.{AreJoined, IsCarried, IsFront, is_good}
 use Rattle.mc_history.specs.Made.{Made, commands_on, read_as, replies_on, taking_of}
 use Rattle.mc_history.proofs.MadeLemmas.{can_on, taken_on, told_on}
 
@@ -111,24 +111,24 @@ good_after (suc count) (c ∷ cs) good = good_after count cs (and_parts (is_good
 pub carried : (place : ℕ) (order : Order) (lane : Lane) (link : LinkState) (opening : CacheState) (made : List Made) (number : ℕ) (connection : ConnectionState) (others : List Tagged)
     → AreJoined place order lane link opening made number connection others → IsCarried place order lane link made number connection others
 carried place order lane link opening made number connection others h =
-    let commands : List Tagged = commands_of_lane place order lane in
-    let can : CanHave (commands_of_lane place order lane) (replies_on number made) =
+    let commands : List Tagged = sent_on place order lane in
+    let can : CanHave (sent_on place order lane) (replies_on number made) =
     subst (λ (cs : List Tagged). CanHave cs (replies_on number made)) (sym h.commands)
     (can-append (commands_on number made) others (replies_on number made) (can_on number opening made h.made)) in
-    let back : told (commands_of_lane place order lane) lane.replies ++ (link.unread ++ connection.output) ≡ told (commands_of_lane place order lane) (replies_on number made) =
-    sym (append_assoc (told (commands_of_lane place order lane) lane.replies) link.unread connection.output)
+    let back : told (sent_on place order lane) lane.replies ++ (link.unread ++ connection.output) ≡ told (sent_on place order lane) (replies_on number made) =
+    sym (append_assoc (told (sent_on place order lane) lane.replies) link.unread connection.output)
     ∙ ap (λ (bytes : List ℕ). bytes ++ connection.output) (sym h.lane.came)
     ∙ h.connection.answered
     ∙ told_on number opening made h.made
     ∙ sym (told-append (commands_on number made) others (replies_on number made) (can_on number opening made h.made))
     ∙ ap (λ (cs : List Tagged). told cs (replies_on number made)) (sym h.commands) in
-    let front = told_front (commands_of_lane place order lane) lane.replies (replies_on number made) (link.unread ++ connection.output) h.good h.lane.can can back in
+    let front = told_front (sent_on place order lane) lane.replies (replies_on number made) (link.unread ++ connection.output) h.good h.lane.can can back in
     record {
       reads = reads_others opening number lane.out link.output lane.came made connection others h.connection
           (h.lane.put ∙ ap (λ (cs : List Tagged). spelled cs) h.commands)
           (ap (λ (cs : List Tagged). list_all is_good cs) (sym h.commands) ∙ h.good);
       front = front;
-      never_strange = λ strange. not_strange (drop (length lane.replies) (commands_of_lane place order lane)) front.later link.unread connection.output
-          (good_after (length lane.replies) (commands_of_lane place order lane) h.good) front.can front.bytes_are
+      never_strange = λ strange. not_strange (drop (length lane.replies) (sent_on place order lane)) front.later link.unread connection.output
+          (good_after (length lane.replies) (sent_on place order lane) h.good) front.can front.bytes_are
           (subst (λ (ws : List Waiting). HasStrange ws link.unread) h.lane.waiting strange);
     }

@@ -12,9 +12,8 @@ use Rattle.mc_link.specs.declared.turns.Tag.{Tag}
 use Rattle.mc_cache.specs.CacheState.{CacheState}
 use Rattle.mc_server.specs.ServerState.{connection_at, output_of}
 use Rattle.mc_server.specs.Turns.{waiting_of}
-use Rattle.mc_account.specs.Lanes.{CanHave, Lane, LaneHolds, as_waiting, told}
+use Rattle.mc_account.specs.Lanes.{CanHave, Lane, LaneHolds, as_waiting, sent_on, told}
 use Rattle.mc_account.specs.Orders.{Order, Tagged}
-use Rattle.mc_history.specs.Generations.{commands_of_lane}
 use Rattle.mc_history.specs.Made.{Made, commands_on, made_on, read_as, replies_on}
 use Rattle.mc_history.proofs.GenerationLemmas.{carried}
 use Rattle.mc_world.specs.Sites.{SiteHolds}
@@ -56,7 +55,7 @@ living_none place order lane link opening site up h holds no_output no_coming un
     let living = h.living up in
     let is_joined = joined place order lane link opening site up h holds in
     let carries = carried place order lane link opening h.made site.connection living.end living.others is_joined in
-    let sizes : length (commands_of_lane place order lane) ≡ length (commands_on site.connection h.made ++ living.others) = ap (λ (cs : List Tagged). length cs) living.commands in
+    let sizes : length (sent_on place order lane) ≡ length (commands_on site.connection h.made ++ living.others) = ap (λ (cs : List Tagged). length cs) living.commands in
     let given : length (replies_on site.connection h.made) ≡ length lane.replies + length carries.front.later =
     ap (λ (rs : List (AReply (List ℕ))). length rs) carries.front.all_is ∙ length-append lane.replies carries.front.later in
     let both : length (replies_on site.connection h.made) ≡ length (commands_on site.connection h.made) =
@@ -68,9 +67,9 @@ living_none place order lane link opening site up h holds no_output no_coming un
       | [] ↦ λ e none. omega (arith, e, length-append (map read_as living.others) (requests_of []), length-map living.others read_as)
       | t ∷ ts ↦ λ e none. absurd (none (omega arith))
     ]) read unread_none in
-    let dropped = length-drop (length lane.replies) (commands_of_lane place order lane) in
+    let dropped = length-drop (length lane.replies) (sent_on place order lane) in
     let end_output : living.end.output ≡ [] = subst (λ (o : _). output_of o ≡ []) living.is_open no_coming in
-    let unread : link.unread ≡ told (drop (length lane.replies) (commands_of_lane place order lane)) carries.front.later =
+    let unread : link.unread ≡ told (drop (length lane.replies) (sent_on place order lane)) carries.front.later =
     sym (append-nil link.unread) ∙ ap (λ (bytes : List ℕ). link.unread ++ bytes) (sym end_output) ∙ carries.front.bytes_are in
-    waiting_none (drop (length lane.replies) (commands_of_lane place order lane)) carries.front.later link holds.waiting unread carries.front.can
+    waiting_none (drop (length lane.replies) (sent_on place order lane)) carries.front.later link holds.waiting unread carries.front.can
     (omega (arith, sizes, given, both, no_others, dropped, length-append (commands_on site.connection h.made) living.others)) never

@@ -6,14 +6,13 @@ use Rattle.mc_route.specs.Routes.{to_place}
 use Rattle.mc_link.specs.LinkState.{LinkState}
 use Rattle.mc_link.specs.declared.turns.Tag.{Tag}
 use Rattle.mc_cache.specs.CacheState.{CacheState}
-use Rattle.mc_account.specs.Lanes.{Lane}
+use Rattle.mc_account.specs.Lanes.{Lane, sent_on}
 use Rattle.mc_account.specs.Lookups.{IsBefore, command_at}
 use Rattle.mc_account.specs.Orders.{AreInOrder, Order, Tagged, commands_to, entries_of}
 use Rattle.mc_account.proofs.OrderLemmas.{commands-append}
 use Rattle.mc_account.proofs.RisingLemmas.{commands_rise, past_front}
 use Rattle.mc_account.proofs.TagLemmas.{count_to, tag_once}
 use Rattle.mc_account.proofs.ThereLemmas.{command_is_there}
-use Rattle.mc_history.specs.Generations.{commands_of_lane}
 use Rattle.mc_history.specs.Histories.{tag_in}
 use Rattle.mc_history.specs.Made.{Made, commands_on, entry_of}
 use Rattle.mc_history.specs.Named.{tags_made, tags_of}
@@ -44,7 +43,7 @@ made_of_entry place order lane link opening site h j d at =
     }
 
 -- the commands to a place: those sent before its living generation came up, those of it that the server took, and the others
-pub commands_split : (place : ℕ) (order : Order) (lane : Lane) (made others : List Tagged) → commands_of_lane place order lane ≡ made ++ others
+pub commands_split : (place : ℕ) (order : Order) (lane : Lane) (made others : List Tagged) → sent_on place order lane ≡ made ++ others
     → commands_to place order ≡ (commands_to place (take lane.since order) ++ made) ++ others
 commands_split place order lane made others is =
     ap (λ (es : Order). commands_to place es) (sym (take-append-drop lane.since order)) ∙ commands-append place (take lane.since order) (drop lane.since order)

@@ -18,7 +18,7 @@ use Rattle.mc_proxy.specs.Sending.{handed}
 use Rattle.mc_proxy.specs.SessionState.{SessionState, link_at, with_link}
 use Rattle.mc_proxy.specs.ProxyState.{ProxyState, output_of as output_at, sent_by, session_at}
 use Rattle.mc_proxy.specs.Sending.{at_once}
-use Rattle.mc_account.specs.Lanes.{Lane, LaneHolds, LinkHolds, told, fresh_lane}
+use Rattle.mc_account.specs.Lanes.{Lane, LaneHolds, LinkHolds, told, fresh_lane, sent_on}
 use Rattle.mc_account.specs.Orders.{Order, TakenRequest, commands_to, note, note_all, note_in}
 use Rattle.mc_account.specs.Holds.{ProxyHolds, SessionHolds, SessionHoldsAt, changed, grown}
 use Rattle.mc_account.proofs.HandingLemmas.{handed_at, received_down}
@@ -26,7 +26,6 @@ use Rattle.mc_account.proofs.LaneLemmas.{lane_fresh, link_other, link_own, up_is
 use Rattle.mc_account.proofs.LinkLemmas.{holds-lost, holds-replied}
 use Rattle.mc_account.proofs.OrderLemmas.{commands-note}
 use Rattle.mc_account.proofs.HoldsLemmas.{holds-gone, holds-sent, changed-other, changed-own, entry_taken, holds-emitted, holds-fed, holds-took}
-use Rattle.mc_history.specs.Generations.{commands_of_lane}
 use Rattle.mc_world.specs.Pools.{ClientGoes, TakesBytes, EndSeen, LateBytes, LateTurn, LinkReturns, HearsClient, LosesLink, PoolHolds, PutsAnswer, ReachesProxy, ReachesServer, ServerTakes, TakesReply, TakesRequest}
 use Rattle.mc_world.specs.Restarts.{ServerRestarts, restarted}
 use Rattle.mc_world.specs.Sites.{SiteHolds}
@@ -116,7 +115,7 @@ pool_takes opening texts sent order lanes client old new e h =
 -- the link of another place, after the one at this place is replaced
 other_link : (opening : CacheState) (order order' : Order) (lanes lanes' : ℕ → Lane) (place other : ℕ) (links links' : List LinkState) (site : SiteState)
     → link_at links' other ≡ link_at links other → lanes' other ≡ lanes other
-    → Keeps order order' → NoNews other order order' → commands_to other order' ≡ commands_to other order → commands_of_lane other order' (lanes other) ≡ commands_of_lane other order (lanes other)
+    → Keeps order order' → NoNews other order order' → commands_to other order' ≡ commands_to other order → sent_on other order' (lanes other) ≡ sent_on other order (lanes other)
     → SiteHolds other order (lanes other) (link_at links other) opening site → SiteHolds other order' (lanes' other) (link_at links' other) opening site
 other_link opening order order' lanes lanes' place other links links' site link_is lane_is keeps news commands sent h =
     grind (arith, site_kept)
@@ -209,7 +208,7 @@ pool_reaches_proxy opening texts sent order lanes place count old new e h =
     }
 
 -- noting an outcome keeps the commands that were sent
-sent-note : (place : ℕ) (tag : Tag) (outcome : Outcome) (order : Order) (lane : Lane) → commands_of_lane place (note tag outcome order) lane ≡ commands_of_lane place order lane
+sent-note : (place : ℕ) (tag : Tag) (outcome : Outcome) (order : Order) (lane : Lane) → sent_on place (note tag outcome order) lane ≡ sent_on place order lane
 sent-note place tag outcome order lane =
     ap (λ (es : Order). commands_to place es) (drop-map (note_in tag outcome) lane.since order) ∙ commands-note place tag outcome (drop lane.since order)
 
@@ -217,7 +216,7 @@ commands-note_all : (place : ℕ) (tags : List Tag) (outcome : Outcome) (order :
 commands-note_all place [] outcome order = refl
 commands-note_all place (tag ∷ tags) outcome order = commands-note_all place tags outcome (note tag outcome order) ∙ commands-note place tag outcome order
 
-sent-note_all : (place : ℕ) (tags : List Tag) (outcome : Outcome) (order : Order) (lane : Lane) → commands_of_lane place (note_all tags outcome order) lane ≡ commands_of_lane place order lane
+sent-note_all : (place : ℕ) (tags : List Tag) (outcome : Outcome) (order : Order) (lane : Lane) → sent_on place (note_all tags outcome order) lane ≡ sent_on place order lane
 sent-note_all place [] outcome order lane = refl
 sent-note_all place (tag ∷ tags) outcome order lane = sent-note_all place tags outcome (note tag outcome order) lane ∙ sent-note place tag outcome order lane
 

@@ -11,9 +11,9 @@ use Rattle.mc_server.specs.ServerState.{ServerState, connection_at, fresh_connec
 use Rattle.mc_server.specs.Holds.{ServerHolds}
 use Rattle.mc_server.proofs.ConnectionLemmas.{fresh_other, fresh_own}
 use Rattle.mc_server.proofs.HoldsLemmas.{ServerHolds-admitted, ServerHolds-new, given}
-use Rattle.mc_account.specs.Lanes.{Lane, LaneHolds, fresh_lane, spelled}
+use Rattle.mc_account.specs.Lanes.{Lane, LaneHolds, fresh_lane, sent_on, spelled}
 use Rattle.mc_account.specs.Orders.{Order, Tagged, commands_to}
-use Rattle.mc_history.specs.Generations.{commands_of_lane, is_good}
+use Rattle.mc_history.specs.Generations.{is_good}
 use Rattle.mc_history.specs.Made.{Each, Made, commands_on, entry_of, read_as, taking_of}
 use Rattle.mc_history.specs.declared.entries.Entry.{Entry}
 use Rattle.mc_cache_laws.specs.GoodCaches.{IsGoodCache}
@@ -65,7 +65,7 @@ site_lost place order order' lane link link' opening site generation up down kee
     let living = h.living up in
     let same_times : (t : Tag) → times t (tags_of (commands_to place order')) ≡ times t (tags_of (commands_to place order)) = λ t. ap (λ (cs : List Tagged). times t (tags_of cs)) commands in
     let way : StaleState = record { generation = generation; connection = site.connection; going = link.output; untaken = drop site.ahead (map (λ (w : Waiting). w.1) link.waiting) } in
-    let sent : commands_of_lane place order lane ≡ commands_on site.connection h.made ++ living.others = living.commands in
+    let sent : sent_on place order lane ≡ commands_on site.connection h.made ++ living.others = living.commands in
     let own : IsLostWay place order h.made h.texts site.server way = record {
       end = living.end;
       is_open = living.is_open;
@@ -74,7 +74,7 @@ site_lost place order order' lane link link' opening site generation up down kee
       good = ap (λ (cs : List Tagged). list_all is_good cs) (sym living.commands) ∙ good_since place lane.since order h.good;
       untaken =
           ap (λ (ws : List Waiting). drop site.ahead (map (λ (w : Waiting). w.1) ws)) holds.waiting
-          ∙ ap (λ (ts : List Tag). drop site.ahead ts) (tags_wait (drop (length lane.replies) (commands_of_lane place order lane)) ∙ sym (drop-map (λ (c : Tagged). c.1) (length lane.replies) (commands_of_lane place order lane)))
+          ∙ ap (λ (ts : List Tag). drop site.ahead ts) (tags_wait (drop (length lane.replies) (sent_on place order lane)) ∙ sym (drop-map (λ (c : Tagged). c.1) (length lane.replies) (sent_on place order lane)))
           ∙ ap (λ (cs : List Tagged). drop site.ahead (drop (length lane.replies) (map (λ (c : Tagged). c.1) cs))) living.commands
           ∙ drop_front (commands_on site.connection h.made) living.others (length lane.replies) site.ahead living.ahead;
       named = each_back (IsNamed place order) (commands_on site.connection h.made) living.others

@@ -11,11 +11,11 @@ use Rattle.mc_server.specs.ServerState.{ConnectionState, ServerState, connection
 use Rattle.mc_server.specs.Holds.{grown}
 use Rattle.mc_server.proofs.ConnectionLemmas.{updated_other, updated_own}
 use Rattle.mc_server.proofs.HoldsLemmas.{ServerHolds-sent, grown-own}
-use Rattle.mc_account.specs.Lanes.{Lane, LaneHolds}
+use Rattle.mc_account.specs.Lanes.{Lane, LaneHolds, sent_on}
 use Rattle.mc_account.specs.Orders.{Order, Tagged, TakenRequest, commands_in, commands_to, entries_of}
 use Rattle.mc_account.proofs.OrderLemmas.{commands-push, passes_joined}
 use Rattle.mc_account.proofs.RisingLemmas.{past_front}
-use Rattle.mc_history.specs.Generations.{AreJoined, commands_of_lane, is_good}
+use Rattle.mc_history.specs.Generations.{AreJoined, is_good}
 use Rattle.mc_history.specs.Made.{Each, Made, commands_on, entry_of, made_on, replies_on, taking_of}
 use Rattle.mc_request.specs.declared.parts.Atom.{Atom}
 use Rattle.mc_reply.specs.Spelling.{spelling_of}
@@ -58,7 +58,7 @@ made_kept place order longer made keeps h =
 pub site_kept : (place : ℕ) (order order' : Order) (lane lane' : Lane) (link link' : LinkState) (opening : CacheState) (site : SiteState)
     → Keeps order order' → NoNews place order order' → commands_to place order' ≡ commands_to place order
     → (link'.up ≡ true → link.up ≡ true)
-    → (link'.up ≡ true → (commands_of_lane place order' lane' ≡ commands_of_lane place order lane) × (lane'.out ≡ lane.out) × (lane'.came ≡ lane.came) × (lane'.replies ≡ lane.replies))
+    → (link'.up ≡ true → (sent_on place order' lane' ≡ sent_on place order lane) × (lane'.out ≡ lane.out) × (lane'.came ≡ lane.came) × (lane'.replies ≡ lane.replies))
     → SiteHolds place order lane link opening site → SiteHolds place order' lane' link' opening site
 site_kept place order order' lane lane' link link' opening site keeps news commands still same h =
     let same_times : (t : Tag) → times t (tags_of (commands_to place order')) ≡ times t (tags_of (commands_to place order)) = λ t. ap (λ (cs : List Tagged). times t (tags_of cs)) commands in
@@ -253,7 +253,7 @@ pub record IsReplied (place : ℕ) (order : Order) (lane : Lane) (link : LinkSta
   pub holds : SiteHolds place order lane link opening (record site { ahead = site.ahead - 1 })
 
 pub site_replied : (place : ℕ) (order order' : Order) (lane lane' : Lane) (link link' : LinkState) (opening : CacheState) (site : SiteState) (tag : Tag) (reply : AReply (List ℕ))
-    → link.up ≡ true → Keeps order order' → commands_to place order' ≡ commands_to place order → commands_of_lane place order' lane' ≡ commands_of_lane place order lane
+    → link.up ≡ true → Keeps order order' → commands_to place order' ≡ commands_to place order → sent_on place order' lane' ≡ sent_on place order lane
     → lane'.out ≡ lane.out → lane'.came ≡ lane.came → lane'.replies ≡ lane.replies ++ reply ∷ []
     → LaneHolds place order lane link → slice_get (map (λ (w : Waiting). w.1) link.waiting) 0 ≡ Some tag
     → ((u : Tag) (q : Outcome) → outcome_at order' u ≡ Some q → (outcome_at order u ≡ Some q) ⊎ ((u ≡ tag) × (q ≡ Reply reply))) → ((u : Tag) → command_at order' u ≡ command_at order u)
@@ -288,7 +288,7 @@ site_replied place order order' lane lane' link link' opening site tag reply up 
     ap (λ (n : ℕ). slice_get (map (λ (c : Tagged). c.1) (commands_on site.connection h.made ++ living.others)) n) (sym first)
     ∙ sym (get_past (map (λ (c : Tagged). c.1) (commands_on site.connection h.made ++ living.others)) (length lane.replies) 0)
     ∙ ap (λ (cs : List Tagged). slice_get (drop (length lane.replies) (map (λ (c : Tagged). c.1) cs)) 0) (sym living.commands)
-    ∙ ap (λ (ts : List Tag). slice_get ts 0) (drop-map (λ (c : Tagged). c.1) (length lane.replies) (commands_of_lane place order lane) ∙ sym (tags_wait (drop (length lane.replies) (commands_of_lane place order lane)))
+    ∙ ap (λ (ts : List Tag). slice_get ts 0) (drop-map (λ (c : Tagged). c.1) (length lane.replies) (sent_on place order lane) ∙ sym (tags_wait (drop (length lane.replies) (sent_on place order lane)))
     ∙ ap (λ (ws : List Waiting). map (λ (w : Waiting). w.1) ws) (sym before.waiting))
     ∙ oldest) in
     let after = entry_after site.connection h.made (length lane.replies) tag reply living.others tag_at inside told_at in

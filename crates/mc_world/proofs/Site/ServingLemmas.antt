@@ -20,10 +20,10 @@ use Rattle.mc_server.specs.ServerState.{ConnectionState, ServerState, connection
 use Rattle.mc_server.specs.Turns.{waiting_of}
 use Rattle.mc_server.proofs.HoldsLemmas.{stood}
 use Rattle.mc_proxy.specs.SessionState.{link_at}
-use Rattle.mc_account.specs.Lanes.{Lane, LaneHolds, LinkHolds, as_waiting, told}
+use Rattle.mc_account.specs.Lanes.{Lane, LaneHolds, LinkHolds, as_waiting, sent_on, told}
 use Rattle.mc_account.specs.Orders.{Order, Tagged}
 use Rattle.mc_account.proofs.OrderLemmas.{passes_parts}
-use Rattle.mc_history.specs.Generations.{commands_of_lane, is_good}
+use Rattle.mc_history.specs.Generations.{is_good}
 use Rattle.mc_history.specs.Made.{Made, commands_on, made_on, read_as, replies_on, taking_of}
 use Rattle.mc_history.proofs.GenerationLemmas.{carried, not_nothing, reads_others}
 use Rattle.mc_world.specs.CourseHolds.{CourseHolds}
@@ -112,9 +112,9 @@ living_serves place order lane link opening site up h holds =
     let is_joined = joined place order lane link opening site up h holds in
     let carries = carried place order lane link opening h.made site.connection living.end living.others is_joined in
     let parts = passes_parts is_good (commands_on site.connection h.made) living.others (ap (λ (cs : List Tagged). list_all is_good cs) (sym living.commands) ∙ is_joined.good) in
-    let sizes : length (commands_of_lane place order lane) ≡ length (commands_on site.connection h.made ++ living.others) = ap (λ (cs : List Tagged). length cs) living.commands in
-    let waiting : length link.waiting ≡ length (drop (length lane.replies) (commands_of_lane place order lane)) =
-    ap (λ (ws : List Waiting). length ws) holds.waiting ∙ length-map (drop (length lane.replies) (commands_of_lane place order lane)) (λ (c : Tagged). (head_of c.0, c.1)) in
+    let sizes : length (sent_on place order lane) ≡ length (commands_on site.connection h.made ++ living.others) = ap (λ (cs : List Tagged). length cs) living.commands in
+    let waiting : length link.waiting ≡ length (drop (length lane.replies) (sent_on place order lane)) =
+    ap (λ (ws : List Waiting). length ws) holds.waiting ∙ length-map (drop (length lane.replies) (sent_on place order lane)) (λ (c : Tagged). (head_of c.0, c.1)) in
     let given : length (replies_on site.connection h.made) ≡ length lane.replies + length carries.front.later =
     ap (λ (rs : List (AReply (List ℕ))). length rs) carries.front.all_is ∙ length-append lane.replies carries.front.later in
     let both : length (replies_on site.connection h.made) ≡ length (commands_on site.connection h.made) =
@@ -130,12 +130,12 @@ living_serves place order lane link opening site up h holds =
             sizes,
             living.ahead,
             length-append (commands_on site.connection h.made) living.others,
-            length-drop (length lane.replies) (commands_of_lane place order lane),
+            length-drop (length lane.replies) (sent_on place order lane),
           );
       never_strange = carries.never_strange;
       replied = λ tag reply after takes.
-          let more = some_later (drop (length lane.replies) (commands_of_lane place order lane)) carries.front.later link after tag reply living.end.output takes
-          (good_later (length lane.replies) (commands_of_lane place order lane) is_joined.good) holds.waiting carries.front.bytes_are in
+          let more = some_later (drop (length lane.replies) (sent_on place order lane)) carries.front.later link after tag reply living.end.output takes
+          (good_later (length lane.replies) (sent_on place order lane) is_joined.good) holds.waiting carries.front.bytes_are in
           omega (arith, more, given, both, living.ahead);
     }
 

@@ -21,11 +21,11 @@ use Rattle.mc_server.specs.Turns.{Feeds, IsTurn, Steps}
 use Rattle.mc_server.specs.declared.turns.Turn.TheVariants.{Took}
 use Rattle.mc_server.proofs.ConnectionLemmas.{updated_other, updated_own}
 use Rattle.mc_server.proofs.HoldsLemmas.{ServerHolds-fed, ServerHolds-took, entry_taken, grown-other, grown-own, stood}
-use Rattle.mc_account.specs.Lanes.{Lane, LaneHolds, as_waiting}
+use Rattle.mc_account.specs.Lanes.{Lane, LaneHolds, as_waiting, sent_on}
 use Rattle.mc_account.specs.Orders.{Order, Tagged, commands_to}
 use Rattle.mc_account.proofs.OpenSessions.{other_number, own_number}
 use Rattle.mc_account.proofs.OrderLemmas.{commands-append, passes_parts}
-use Rattle.mc_history.specs.Generations.{AreJoined, commands_of_lane, is_good}
+use Rattle.mc_history.specs.Generations.{AreJoined, is_good}
 use Rattle.mc_history.specs.Made.{Each, IsMade, Made, commands_on, entry_of, made_on, read_as, taking_of}
 use Rattle.mc_history.specs.declared.entries.Entry.{Entry}
 use Rattle.mc_world.specs.Sites.{IsLostWay, SiteHolds}
@@ -234,8 +234,8 @@ waits_next place order lane link opening site up h command past holds is =
     let living = h.living up in
     let tags : map (λ (w : Waiting). w.1) link.waiting ≡ drop (length lane.replies) (map (λ (c : Tagged). c.1) (commands_on site.connection h.made) ++ command.1 ∷ map (λ (c : Tagged). c.1) past) =
     ap (λ (ws : List Waiting). map (λ (w : Waiting). w.1) ws) holds.waiting
-    ∙ tags_wait (drop (length lane.replies) (commands_of_lane place order lane))
-    ∙ sym (drop-map (λ (c : Tagged). c.1) (length lane.replies) (commands_of_lane place order lane))
+    ∙ tags_wait (drop (length lane.replies) (sent_on place order lane))
+    ∙ sym (drop-map (λ (c : Tagged). c.1) (length lane.replies) (sent_on place order lane))
     ∙ ap (λ (cs : List Tagged). drop (length lane.replies) (map (λ (c : Tagged). c.1) cs)) (living.commands ∙ ap (λ (cs : List Tagged). commands_on site.connection h.made ++ cs) is)
     ∙ ap (λ (ts : List Tag). drop (length lane.replies) ts) (map-append (λ (c : Tagged). c.1) (commands_on site.connection h.made) (command ∷ past)) in
     grind (arith, slice_get, length-map, at_place, get_past)
