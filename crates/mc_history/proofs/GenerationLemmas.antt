@@ -23,7 +23,7 @@ use Rattle.mc_cache.specs.CacheState.{CacheState}
 use Rattle.mc_account.specs.Lanes.{CanHave, Lane, as_waiting, sent_on, spelled, told}
 use Rattle.mc_account.specs.Orders.{Order, Tagged}
 use Rattle.mc_account.proofs.LaneLemmas.{can-append, told-append}
-use Rattle.mc_history.specs.Generations.{AreJoined, IsCarried, IsFront, is_good}
+use Rattle.mc_history.specs.Generations.{BothEndsAgree, IsCarried, IsFront, is_good}
 use Rattle.mc_history.specs.Made.{Made, commands_on, read_as, replies_on, taking_of}
 use Rattle.mc_history.proofs.MadeLemmas.{can_on, taken_on, told_on}
 
@@ -109,7 +109,7 @@ good_after (suc count) (c ∷ cs) good = good_after count cs (and_parts (is_good
 
 -- the main lemma: what a living generation carries
 pub carried : (place : ℕ) (order : Order) (lane : Lane) (link : LinkState) (opening : CacheState) (made : List Made) (number : ℕ) (connection : ConnectionState) (others : List Tagged)
-    → AreJoined place order lane link opening made number connection others → IsCarried place order lane link made number connection others
+    → BothEndsAgree place order lane link opening made number connection others → IsCarried place order lane link made number connection others
 carried place order lane link opening made number connection others h =
     let commands : List Tagged = sent_on place order lane in
     let can : CanHave (sent_on place order lane) (replies_on number made) =

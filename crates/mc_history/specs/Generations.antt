@@ -27,7 +27,7 @@ pub record IsFront (commands : List Tagged) (replies all : List (AReply (List �
 
 -- A link that is up and the server's connection at its other end, by what the server made of the commands that arrived, and which
 -- others were sent. Both ways, the bytes that arrived are those that were sent.
-pub record AreJoined (place : ℕ) (order : Order) (passed : Lane) (link : LinkState) (opening : CacheState) (all : List Made) (number : ℕ) (end : ConnectionState) (others : List Tagged) : Type 0 where
+pub record BothEndsAgree (place : ℕ) (order : Order) (passed : Lane) (link : LinkState) (opening : CacheState) (all : List Made) (number : ℕ) (end : ConnectionState) (others : List Tagged) : Type 0 where
   pub lane : LaneHolds place order passed link
   pub connection : Holds opening number passed.out (map taking_of all) passed.came end
   pub made : AreMade opening all

@@ -15,7 +15,7 @@ use Rattle.mc_account.specs.Lanes.{Lane, LaneHolds, sent_on}
 use Rattle.mc_account.specs.Orders.{Order, Tagged, TakenRequest, commands_in, commands_to, entries_of}
 use Rattle.mc_account.proofs.OrderLemmas.{commands-push, passes_joined}
 use Rattle.mc_account.proofs.RisingLemmas.{past_front}
-use Rattle.mc_history.specs.Generations.{AreJoined, is_good}
+use Rattle.mc_history.specs.Generations.{BothEndsAgree, is_good}
 use Rattle.mc_history.specs.Made.{Each, Made, commands_on, entry_of, made_on, replies_on, taking_of}
 use Rattle.mc_request.specs.declared.parts.Atom.{Atom}
 use Rattle.mc_reply.specs.Spelling.{spelling_of}
@@ -263,7 +263,7 @@ site_replied place order order' lane lane' link link' opening site tag reply up 
     let living = h.living up in
     let same_times : (t : Tag) → times t (tags_of (commands_to place order')) ≡ times t (tags_of (commands_to place order)) = λ t. ap (λ (cs : List Tagged). times t (tags_of cs)) commands in
     let good' : list_all is_good (commands_to place order') ≡ true = ap (λ (cs : List Tagged). list_all is_good cs) commands ∙ h.good in
-    let is_joined : AreJoined place order' lane' link' opening h.made site.connection living.end living.others = record {
+    let is_joined : BothEndsAgree place order' lane' link' opening h.made site.connection living.end living.others = record {
       lane = holds;
       connection = stood_at opening h.made h.texts h.sent lane' site living.end h.server living.is_open (living.out ∙ sym out) (living.came ∙ sym came);
       made = h.answers;

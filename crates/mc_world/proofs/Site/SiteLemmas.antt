@@ -25,7 +25,7 @@ use Rattle.mc_account.specs.Lanes.{Lane, LaneHolds, as_waiting, sent_on}
 use Rattle.mc_account.specs.Orders.{Order, Tagged, commands_to}
 use Rattle.mc_account.proofs.OpenSessions.{other_number, own_number}
 use Rattle.mc_account.proofs.OrderLemmas.{commands-append, passes_parts}
-use Rattle.mc_history.specs.Generations.{AreJoined, is_good}
+use Rattle.mc_history.specs.Generations.{BothEndsAgree, is_good}
 use Rattle.mc_history.specs.Made.{Each, IsMade, Made, commands_on, entry_of, made_on, read_as, taking_of}
 use Rattle.mc_history.specs.declared.entries.Entry.{Entry}
 use Rattle.mc_world.specs.Sites.{IsLostWay, SiteHolds}
@@ -138,7 +138,7 @@ stood_at opening made texts sent lane site end h is_open out came = grind (arith
 
 -- the commands of a living generation: those before, and the others
 pub joined : (place : ℕ) (order : Order) (lane : Lane) (link : LinkState) (opening : CacheState) (site : SiteState) (up : link.up ≡ true) (h : SiteHolds place order lane link opening site)
-    → LaneHolds place order lane link → AreJoined place order lane link opening h.made site.connection (h.living up).end (h.living up).others
+    → LaneHolds place order lane link → BothEndsAgree place order lane link opening h.made site.connection (h.living up).end (h.living up).others
 joined place order lane link opening site up h holds = grind (arith, good_since, stood_at)
 
 -- the command that a server takes next
