@@ -13,7 +13,7 @@ use Rattle.mc_route.specs.declared.losses.Losses.{Losses}
 use Rattle.mc_link.specs.LinkState.{LinkState, Waiting, down_link}
 use Rattle.mc_link.specs.declared.turns.Tag.{Tag}
 use Rattle.mc_proxy.specs.Emits.{is_told}
-use Rattle.mc_proxy.specs.SessionNoting.{noted_in}
+use Rattle.mc_proxy.specs.SessionNoting.{set_outcome_in_session}
 use Rattle.mc_proxy.specs.SessionState.{SessionState, link_at, with_link}
 use Rattle.mc_proxy.specs.Joins.{JoinsServer, joined_link}
 use Rattle.mc_proxy.specs.LinkTurns.{Answers, lost_at}
@@ -70,7 +70,7 @@ holds_with texts sent order lanes lanes' place links new h own lane_is link_is =
 -- the session of a tag, open or not, after an outcome is noted that was pending
 at_noted : (tag : Tag) (outcome : Outcome) (order : Order) (text sent : List ℕ) (session : Option SessionState) → AreInOrder (entries_of tag.session order)
     → owners tag order ≤ 1 → 1 ≤ incomplete_owners tag order → SessionHoldsAt tag.session order text sent session
-    → SessionHoldsAt tag.session (note tag outcome order) text sent (option_map (noted_in tag outcome) session)
+    → SessionHoldsAt tag.session (note tag outcome order) text sent (option_map (set_outcome_in_session tag outcome) session)
 at_noted tag outcome order text sent None numbered once open_one h = left_noted tag outcome order text sent once open_one h
 at_noted tag outcome order text sent (Some session) numbered once open_one h = session_noted tag outcome order text sent session numbered once open_one h
 
@@ -84,7 +84,7 @@ still_none : (tag : Tag) (outcome : Outcome) (number : ℕ) (sessions : Sessions
 still_none tag outcome number sessions none =
     ⊎_elim
     (λ e. subst (λ (n : ℕ). session_in sessions n ≡ None → session_in (noted tag outcome sessions) n ≡ None) e.1
-    (λ own. noted_own tag outcome sessions ∙ ap (λ (s : Option SessionState). option_map (noted_in tag outcome) s) own) none)
+    (λ own. noted_own tag outcome sessions ∙ ap (λ (s : Option SessionState). option_map (set_outcome_in_session tag outcome) s) own) none)
     (λ e. noted_other tag outcome number sessions e.1 ∙ none)
     (eqb_tells tag.session number)
 

@@ -9,7 +9,7 @@ use Rattle.mc_route.specs.declared.outcomes.Outcome.{Outcome}
 use Rattle.mc_route.specs.declared.routes.Routed.{Routed}
 use Rattle.mc_link.specs.declared.turns.Tag.{Tag}
 use Rattle.mc_proxy.specs.Emits.{is_told}
-use Rattle.mc_proxy.specs.SessionNoting.{with_outcome}
+use Rattle.mc_proxy.specs.SessionNoting.{set_outcome}
 use Rattle.mc_proxy.specs.Sending.{tag_of}
 use Rattle.mc_account.specs.Orders.{TakenRequest, Order, Tagged, IsSized, commands_from, commands_in, commands_to, note, note_in, outcomes_from, outcomes_in, outcomes_to, owns}
 use Rattle.mc_account.proofs.OpenSessions.{other_number}
@@ -66,7 +66,7 @@ renoted_at tag outcome front back c xs ys x is front_len back_len none_before no
 -- an outcome that is noted in a request, in its commands to a place from one number on
 noted_from : (tag : Tag) (outcome : Outcome) (place session request : ℕ) → ((session == tag.session) && (request == tag.request)) ≡ true
     → (at ahead : ℕ) (commands : List Routed) (xs : List Outcome) → length xs ≡ length commands → at + ahead ≡ tag.atom
-    → outcomes_from place commands (with_outcome ahead outcome xs) ≡ renoted tag outcome (commands_from place session request at commands) (outcomes_from place commands xs)
+    → outcomes_from place commands (set_outcome ahead outcome xs) ≡ renoted tag outcome (commands_from place session request at commands) (outcomes_from place commands xs)
 noted_from tag outcome place session request own at ahead [] xs h sum = refl
 noted_from tag outcome place session request own at ahead (command ∷ commands) [] h sum = absurd cc
 noted_from tag outcome place session request own at zero (command ∷ commands) (x ∷ xs) h sum =
@@ -86,7 +86,7 @@ noted_from tag outcome place session request own at (suc ahead) (command ∷ com
     and_right ((session == tag.session) && (request == tag.request)) (at == tag.atom) (other_number at tag.atom (λ same. omega (arith, sum, same))) in
     let again = noted_from tag outcome place session request own (suc at) ahead commands xs (cc) (omega (arith, sum)) in
     (elim (command.server == place) as (λ v.
-    (if v then x ∷ outcomes_from place commands (with_outcome ahead outcome xs) else outcomes_from place commands (with_outcome ahead outcome xs))
+    (if v then x ∷ outcomes_from place commands (set_outcome ahead outcome xs) else outcomes_from place commands (set_outcome ahead outcome xs))
     ≡ renoted tag outcome (if v then (command.atom, tag_of session request at) ∷ commands_from place session request (suc at) commands else commands_from place session request (suc at) commands)
     (if v then x ∷ outcomes_from place commands xs else outcomes_from place commands xs)) [
       | true ↦ ap (λ (zs : List Outcome). x ∷ zs) again
@@ -98,7 +98,7 @@ noted_from tag outcome place session request own at (suc ahead) (command ∷ com
 noted_in_entry : (tag : Tag) (outcome : Outcome) (place : ℕ) (e : TakenRequest) → IsSized e → outcomes_in place (note_in tag outcome e) ≡ renoted tag outcome (commands_in place e) (outcomes_in place e)
 noted_in_entry tag outcome place e sized =
     (elim (owns tag e) as (λ v. owns tag e ≡ v
-    → outcomes_from place (route_of_taken e.ring e.what) (if v then with_outcome tag.atom outcome e.outcomes else e.outcomes) ≡ renoted tag outcome (commands_in place e) (outcomes_in place e)) [
+    → outcomes_from place (route_of_taken e.ring e.what) (if v then set_outcome tag.atom outcome e.outcomes else e.outcomes) ≡ renoted tag outcome (commands_in place e) (outcomes_in place e)) [
       | true ↦ λ is. noted_from tag outcome place e.session e.request is 0 tag.atom (route_of_taken e.ring e.what) e.outcomes sized (omega arith)
       | false ↦ λ is. sym (renoted_absent tag outcome (commands_in place e) (outcomes_in place e)
           (count_apart tag place e.session e.request 0 (route_of_taken e.ring e.what) is) (lengths_in place e sized))

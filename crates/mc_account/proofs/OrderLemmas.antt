@@ -13,7 +13,7 @@ use Rattle.mc_route.specs.declared.routes.Routed.{Routed}
 use Rattle.mc_route.specs.declared.losses.Losses.{Losses}
 use Rattle.mc_link.specs.declared.turns.Tag.{Tag}
 use Rattle.mc_proxy.specs.Emits.{answer_by, is_told}
-use Rattle.mc_proxy.specs.SessionNoting.{with_outcome}
+use Rattle.mc_proxy.specs.SessionNoting.{set_outcome}
 use Rattle.mc_account.specs.Orders.{TakenRequest, Order, Tagged, AreInOrder, IsSized, answers_of, commands_from, commands_in, commands_to, entries_of, note, note_in, numbers_from, outcomes_from, outcomes_in, outcomes_to, owns, IsToldAs}
 use Rattle.mc_account.proofs.OpenSessions.{own_number, other_number}
 
@@ -135,15 +135,15 @@ pub commands-note : (place : ℕ) (tag : Tag) (outcome : Outcome) (es : Order) �
 commands-note place tag outcome [] = refl
 commands-note place tag outcome (e ∷ es) = ap (λ (cs : List Tagged). commands_in place e ++ cs) (commands-note place tag outcome es)
 
-length-with_outcome : (at : ℕ) (outcome : Outcome) (xs : List Outcome) → length (with_outcome at outcome xs) ≡ length xs
-length-with_outcome at outcome [] = refl
-length-with_outcome zero outcome (x ∷ xs) = refl
-length-with_outcome (suc at) outcome (x ∷ xs) = ap suc (length-with_outcome at outcome xs)
+length-set_outcome : (at : ℕ) (outcome : Outcome) (xs : List Outcome) → length (set_outcome at outcome xs) ≡ length xs
+length-set_outcome at outcome [] = refl
+length-set_outcome zero outcome (x ∷ xs) = refl
+length-set_outcome (suc at) outcome (x ∷ xs) = ap suc (length-set_outcome at outcome xs)
 
 sized-note_in : (tag : Tag) (outcome : Outcome) (e : TakenRequest) → IsSized e → IsSized (note_in tag outcome e)
 sized-note_in tag outcome e h =
-    (elim (owns tag e) as (λ v. length (if v then with_outcome tag.atom outcome e.outcomes else e.outcomes) ≡ length (route_of_taken e.ring e.what)) [
-      | true ↦ length-with_outcome tag.atom outcome e.outcomes ∙ h
+    (elim (owns tag e) as (λ v. length (if v then set_outcome tag.atom outcome e.outcomes else e.outcomes) ≡ length (route_of_taken e.ring e.what)) [
+      | true ↦ length-set_outcome tag.atom outcome e.outcomes ∙ h
       | false ↦ h
     ])
 

@@ -17,7 +17,7 @@ use Rattle.mc_route.specs.declared.losses.Losses.{Losses}
 use Rattle.mc_link.specs.LinkState.{LinkState}
 use Rattle.mc_link.specs.declared.turns.Tag.{Tag}
 use Rattle.mc_proxy.specs.Emits.{answer_by, answer_of_one, emitted, emitted_from}
-use Rattle.mc_proxy.specs.SessionNoting.{noted_at, noted_in, with_outcome}
+use Rattle.mc_proxy.specs.SessionNoting.{set_outcome, set_outcome_in_session, set_outcome_of_request}
 use Rattle.mc_proxy.specs.Sending.{at_once}
 use Rattle.mc_proxy.specs.SessionState.{SessionState, Unanswered, answered, fresh_session}
 use Rattle.mc_proxy.specs.SessionTurns.{IsFed, Takes}
@@ -211,7 +211,7 @@ note_absent tag outcome [] none = refl
 note_absent tag outcome (e ∷ es) none =
     let again = λ (rest : owners tag es ≡ 0). note_absent tag outcome es rest in
     (elim (owns tag e) as (λ v. weight v + owners tag es ≡ 0
-    → record e { outcomes = if v then with_outcome tag.atom outcome e.outcomes else e.outcomes } ∷ note tag outcome es ≡ e ∷ es) [
+    → record e { outcomes = if v then set_outcome tag.atom outcome e.outcomes else e.outcomes } ∷ note tag outcome es ≡ e ∷ es) [
       | true ↦ λ sum. absurd (omega (arith, sum))
       | false ↦ λ sum. ap (λ (xs : Order). e ∷ xs) (again (omega (arith, sum)))
     ]) none
@@ -232,7 +232,7 @@ owners_elsewhere tag number (e ∷ es) differ =
 
 -- an outcome is noted at its place among the unanswered requests
 noted_among : (tag : Tag) (outcome : Outcome) (at : ℕ) (es : Order) → AreOf tag.session es → map (λ (e : TakenRequest). e.request) es ≡ numbers_from at es → at ≤ tag.request
-    → map unanswered_of (note tag outcome es) ≡ noted_at (tag.request - at) tag.atom outcome (map unanswered_of es)
+    → map unanswered_of (note tag outcome es) ≡ set_outcome_of_request (tag.request - at) tag.atom outcome (map unanswered_of es)
 noted_among tag outcome at [] whose numbered h = refl
 noted_among tag outcome at (e ∷ es) whose numbered h =
     let here : e.request ≡ at = cc in
@@ -241,16 +241,16 @@ noted_among tag outcome at (e ∷ es) whose numbered h =
     (λ (later : at < tag.request).
     let apart : owns tag e ≡ false = and_right (e.session == tag.session) (e.request == tag.request) (other_number e.request tag.request (λ same. omega (arith, here, same, later))) in
     let next : tag.request - at ≡ suc (tag.request - suc at) = omega (arith, later) in
-    ap (λ (v : Bool). unanswered_of (record e { outcomes = if v then with_outcome tag.atom outcome e.outcomes else e.outcomes }) ∷ map unanswered_of (note tag outcome es)) apart
+    ap (λ (v : Bool). unanswered_of (record e { outcomes = if v then set_outcome tag.atom outcome e.outcomes else e.outcomes }) ∷ map unanswered_of (note tag outcome es)) apart
     ∙ ap (λ (us : List Unanswered). unanswered_of e ∷ us) (noted_among tag outcome (suc at) es whose.1 past later)
-    ∙ ap (λ (n : ℕ). noted_at n tag.atom outcome (unanswered_of e ∷ map unanswered_of es)) (sym next))
+    ∙ ap (λ (n : ℕ). set_outcome_of_request n tag.atom outcome (unanswered_of e ∷ map unanswered_of es)) (sym next))
     (λ (not_later : tag.request ≤ at).
     let own : owns tag e ≡ true = and_from (e.session == tag.session) (e.request == tag.request) whose.0 (eq-eqb e.request tag.request (omega (arith, here, h, not_later))) in
     let none : tag.request - at ≡ 0 = omega (arith, not_later) in
-    ap (λ (v : Bool). unanswered_of (record e { outcomes = if v then with_outcome tag.atom outcome e.outcomes else e.outcomes }) ∷ map unanswered_of (note tag outcome es)) own
-    ∙ ap (λ (xs : Order). unanswered_of (record e { outcomes = with_outcome tag.atom outcome e.outcomes }) ∷ map unanswered_of xs)
+    ap (λ (v : Bool). unanswered_of (record e { outcomes = if v then set_outcome tag.atom outcome e.outcomes else e.outcomes }) ∷ map unanswered_of (note tag outcome es)) own
+    ∙ ap (λ (xs : Order). unanswered_of (record e { outcomes = set_outcome tag.atom outcome e.outcomes }) ∷ map unanswered_of xs)
     (note_absent tag outcome es (owners_later tag (suc at) es past (omega (arith, not_later))))
-    ∙ ap (λ (n : ℕ). noted_at n tag.atom outcome (unanswered_of e ∷ map unanswered_of es)) (sym none))
+    ∙ ap (λ (n : ℕ). set_outcome_of_request n tag.atom outcome (unanswered_of e ∷ map unanswered_of es)) (sym none))
     (cases_lt at tag.request)
 
 -- the entry of a tag that is not complete is not among those that are
@@ -287,7 +287,7 @@ noted_taken tag outcome number order =
 noted_unanswered : (tag : Tag) (outcome : Outcome) (session : SessionState) (done incomplete : Order) → AreOf tag.session incomplete
     → map (λ (e : TakenRequest). e.request) incomplete ≡ numbers_from (length done) incomplete → session.unanswered ≡ map unanswered_of incomplete
     → session.taken ≡ length done + length incomplete → 1 ≤ owners tag incomplete
-    → noted_in tag outcome session ≡ record session { unanswered = map unanswered_of (note tag outcome incomplete) }
+    → set_outcome_in_session tag outcome session ≡ record session { unanswered = map unanswered_of (note tag outcome incomplete) }
 noted_unanswered tag outcome session done incomplete whose numbered unanswered taken there =
     let many : length session.unanswered ≡ length incomplete = ap (λ (us : List Unanswered). length us) unanswered ∙ length-map incomplete unanswered_of in
     let first : answered session ≡ length done = omega (arith, many, taken) in
@@ -295,14 +295,15 @@ noted_unanswered tag outcome session done incomplete whose numbered unanswered t
     ⊎_elim (λ (early : tag.request < length done). absurd (omega (arith, owners_later tag (length done) incomplete numbered early, there))) (λ (fine : length done ≤ tag.request). fine)
     (cases_lt tag.request (length done)) in
     let not_answered : nat_lt tag.request (answered session) ≡ false = le-ltb tag.request (answered session) (omega (arith, first, late)) in
-    ap (λ (v : Bool). if v then session else record session { unanswered = noted_at (tag.request - answered session) tag.atom outcome session.unanswered }) not_answered
-    ∙ ap₂ (λ (n : ℕ) (us : List Unanswered). record session { unanswered = noted_at (tag.request - n) tag.atom outcome us }) first unanswered
+    ap (λ (v : Bool). if v then session else record session { unanswered = set_outcome_of_request (tag.request - answered session) tag.atom outcome session.unanswered }) not_answered
+    ∙ ap₂ (λ (n : ℕ) (us : List Unanswered). record session { unanswered = set_outcome_of_request (tag.request - n) tag.atom outcome us }) first unanswered
     ∙ ap (λ (us : List Unanswered). record session { unanswered = us }) (sym (noted_among tag outcome (length done) incomplete whose numbered late))
 
 -- an outcome is noted that was pending: the session of its tag
 pub session_noted : (tag : Tag) (outcome : Outcome) (order : Order) (text sent : List ℕ) (session : SessionState) → AreInOrder (entries_of tag.session order)
     → owners tag order ≤ 1 → 1 ≤ incomplete_owners tag order
-    → SessionHolds tag.session order text sent session → SessionHolds tag.session (note tag outcome order) text sent (noted_in tag outcome session)
+    → SessionHolds tag.session order text sent session
+    → SessionHolds tag.session (note tag outcome order) text sent (set_outcome_in_session tag outcome session)
 session_noted tag outcome order text sent session numbered once open_one h =
     let n = not_done tag order h.done h.incomplete h.split h.complete once open_one in
     let whose = are_of_after tag.session h.done h.incomplete (subst (λ (es : Order). AreOf tag.session es) h.split (are_of tag.session order)) in
@@ -323,7 +324,7 @@ session_noted tag outcome order text sent session numbered once open_one h =
       unanswered = ap (λ (s : SessionState). s.unanswered) now;
       taken =
           let longer : length (entries_of tag.session (note tag outcome order)) ≡ length (h.done ++ note tag outcome h.incomplete) = ap (λ (es : Order). length es) split in
-          let same : (noted_in tag outcome session).taken ≡ session.taken = ap (λ (s : SessionState). s.taken) now in
+          let same : (set_outcome_in_session tag outcome session).taken ≡ session.taken = ap (λ (s : SessionState). s.taken) now in
           omega (arith, same, size, longer, length-append h.done (note tag outcome h.incomplete), length-map h.incomplete (note_in tag outcome));
     }
 

@@ -11,7 +11,7 @@ use Rattle.mc_route.specs.declared.outcomes.Outcome.{Outcome}
 use Rattle.mc_route.specs.declared.routes.Routed.{Routed}
 use Rattle.mc_link.specs.declared.turns.Tag.{Tag}
 use Rattle.mc_proxy.specs.Emits.{answer_by, is_told}
-use Rattle.mc_proxy.specs.SessionNoting.{with_outcome}
+use Rattle.mc_proxy.specs.SessionNoting.{set_outcome}
 use Rattle.mc_proxy.specs.Sending.{tag_of}
 use Rattle.mc_proxy.specs.SessionState.{Unanswered}
 
@@ -98,7 +98,7 @@ owns tag e = (e.session == tag.session) && (e.request == tag.request)
 -- the outcome of a command, noted in its entry
 abbrev pub note_in : Tag → Outcome → TakenRequest → TakenRequest
 note_in tag outcome e = record e {
-  outcomes = if owns tag e then with_outcome tag.atom outcome e.outcomes else e.outcomes;
+  outcomes = if owns tag e then set_outcome tag.atom outcome e.outcomes else e.outcomes;
 }
 
 abbrev pub note : Tag → Outcome → Order → Order

@@ -51,7 +51,7 @@ impl Session {
     ghost use Rattle.mc_route.specs.Routes.{route_of_taken};
     ghost use Rattle.mc_proxy.specs.SessionState.{fresh_session};
     ghost use Rattle.mc_proxy.specs.Emits.{IsEmit, emitted, hides_loss_first};
-    ghost use Rattle.mc_proxy.specs.SessionNoting.{noted_in};
+    ghost use Rattle.mc_proxy.specs.SessionNoting.{set_outcome_in_session};
     ghost use Rattle.mc_proxy.specs.Sending.{at_once, handed, is_marked, is_session_marked};
     ghost use Rattle.mc_proxy.specs.Looks.{IsReady, waits_for};
     ghost use Rattle.mc_proxy.specs.SessionTurns.{IsFed, IsTurn};
@@ -314,7 +314,7 @@ impl Session {
 
     /// Records the outcome of a command. If its request is answered, the outcome is dropped.
     pub fn note(&mut self, tag: Tag, outcome: Outcome)
-        ensures { self.new ≡ noted_in tag outcome self.old }
+        ensures { self.new ≡ set_outcome_in_session tag outcome self.old }
     {
         let answered = self.taken - self.unanswered.len() as u64;
         let Some(place) = tag.request.checked_sub(answered) else {

@@ -33,7 +33,7 @@ impl Model for Unanswered {
 
 impl Unanswered {
     ghost use Rattle.mc_proxy.specs.Emits.{answer_of_one, hides_loss_of, is_known};
-    ghost use Rattle.mc_proxy.specs.SessionNoting.{with_outcome};
+    ghost use Rattle.mc_proxy.specs.SessionNoting.{set_outcome};
 
     /// Makes the entry of a request or fault that was just taken: the choice for its lost commands, and the immediate
     /// outcomes of its commands.
@@ -69,7 +69,7 @@ impl Unanswered {
 
     /// Records the outcome of a command, by its number. If there is no command of this number, the outcome is dropped.
     pub fn note(&mut self, at: usize, outcome: Outcome)
-        ensures { self.new ≡ record self.old { outcomes = with_outcome at outcome self.old.outcomes } }
+        ensures { self.new ≡ record self.old { outcomes = set_outcome at outcome self.old.outcomes } }
     {
         if at >= self.outcomes.len() {
             return;

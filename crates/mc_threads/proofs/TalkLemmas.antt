@@ -15,7 +15,7 @@ use Rattle.mc_route.specs.declared.losses.Losses.{Losses}
 use Rattle.mc_link.specs.LinkState.{LinkState}
 use Rattle.mc_link.specs.declared.turns.Tag.{Tag}
 use Rattle.mc_proxy.specs.Emits.{IsEmit}
-use Rattle.mc_proxy.specs.SessionNoting.{noted_in}
+use Rattle.mc_proxy.specs.SessionNoting.{set_outcome_in_session}
 use Rattle.mc_proxy.specs.Sending.{handed}
 use Rattle.mc_proxy.specs.SessionState.{SessionState, fresh_session, link_at, with_link}
 use Rattle.mc_proxy.specs.SessionTurns.{IsFed, IsTurn, IsUnchanged}
@@ -79,9 +79,9 @@ open_noted : (tag : Tag) (outcome : Outcome) (old new : ProxyState) (client : �
 open_noted tag outcome old new client is o =
     ⊎_elim
     (λ e. (
-      noted_in tag outcome o.0,
+      set_outcome_in_session tag outcome o.0,
       ap (λ (ss : Sessions). session_in ss client) is ∙ ap (λ (n : ℕ). session_in (noted tag outcome old.sessions) n) (sym e.1) ∙ noted_own tag outcome old.sessions
-          ∙ ap (λ (n : ℕ). option_map (noted_in tag outcome) (session_in old.sessions n)) e.1 ∙ ap (λ (s : Option SessionState). option_map (noted_in tag outcome) s) o.1,
+          ∙ ap (λ (n : ℕ). option_map (set_outcome_in_session tag outcome) (session_in old.sessions n)) e.1 ∙ ap (λ (s : Option SessionState). option_map (set_outcome_in_session tag outcome) s) o.1,
     ))
     (λ e. (o.0, ap (λ (ss : Sessions). session_in ss client) is ∙ noted_other tag outcome client old.sessions e.1 ∙ o.1))
     (eqb_tells tag.session client)

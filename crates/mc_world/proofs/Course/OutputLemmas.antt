@@ -7,7 +7,7 @@ use Rattle.mc_route.specs.declared.outcomes.Outcome.{Outcome}
 use Rattle.mc_route.specs.declared.outcomes.Outcome.TheVariants.{Lost}
 use Rattle.mc_link.specs.LinkState.{LinkState, Waiting}
 use Rattle.mc_link.specs.declared.turns.Tag.{Tag}
-use Rattle.mc_proxy.specs.SessionNoting.{noted_at, noted_in}
+use Rattle.mc_proxy.specs.SessionNoting.{set_outcome_in_session, set_outcome_of_request}
 use Rattle.mc_proxy.specs.SessionState.{SessionState, answered}
 use Rattle.mc_proxy.specs.Noting.{all_lost, noted}
 use Rattle.mc_proxy.specs.ProxyState.{ProxyState, Sessions, output_of, sent_by, session_at, session_in, updated, without}
@@ -39,11 +39,11 @@ unsent_kept number old new Step h same n =
     (eqb_tells number n)
 
 -- a session in which an outcome is noted
-noted-output : (tag : Tag) (outcome : Outcome) (s : Option SessionState) → output_of (option_map (noted_in tag outcome) s) ≡ output_of s
+noted-output : (tag : Tag) (outcome : Outcome) (s : Option SessionState) → output_of (option_map (set_outcome_in_session tag outcome) s) ≡ output_of s
 noted-output tag outcome None = refl
 noted-output tag outcome (Some s) =
     elim (nat_lt tag.request (answered s)) as (λ v.
-    (if v then s else record s { unanswered = noted_at (tag.request - answered s) tag.atom outcome s.unanswered }).output ≡ s.output) [
+    (if v then s else record s { unanswered = set_outcome_of_request (tag.request - answered s) tag.atom outcome s.unanswered }).output ≡ s.output) [
       | true ↦ refl
       | false ↦ refl
     ]

@@ -9,7 +9,7 @@ use Rattle.mc_route.specs.declared.routes.Routed.{Routed}
 use Rattle.mc_link.specs.LinkState.{LinkState}
 use Rattle.mc_link.specs.declared.turns.Tag.{Tag}
 use Rattle.mc_proxy.specs.Emits.{emitted, emitted_from}
-use Rattle.mc_proxy.specs.SessionNoting.{noted_at, noted_in}
+use Rattle.mc_proxy.specs.SessionNoting.{set_outcome_in_session, set_outcome_of_request}
 use Rattle.mc_proxy.specs.Sending.{handed, handed_to}
 use Rattle.mc_proxy.specs.SessionState.{SessionState, Unanswered, link_at, with_link}
 use Rattle.mc_proxy.specs.Noting.{noted}
@@ -46,13 +46,14 @@ sessions_updated ring number before after (s ∷ others) at =
     ]) at
 
 -- an outcome is noted: as much is left to do in the sessions
-noted_at-length : (place atom : ℕ) (outcome : Outcome) (us : List Unanswered) → length (noted_at place atom outcome us) ≡ length us
-noted_at-length place atom outcome [] = refl
-noted_at-length zero atom outcome (u ∷ us) = refl
-noted_at-length (suc place) atom outcome (u ∷ us) = ap suc (noted_at-length place atom outcome us)
+set_outcome_of_request-length : (place atom : ℕ) (outcome : Outcome) (us : List Unanswered) → length (set_outcome_of_request place atom outcome us) ≡ length us
+set_outcome_of_request-length place atom outcome [] = refl
+set_outcome_of_request-length zero atom outcome (u ∷ us) = refl
+set_outcome_of_request-length (suc place) atom outcome (u ∷ us) = ap suc (set_outcome_of_request-length place atom outcome us)
 
-session_noted : (ring : RingState) (tag : Tag) (outcome : Outcome) (s : SessionState) → work_of_session ring (noted_in tag outcome s) ≡ work_of_session ring s
-session_noted ring tag outcome s = grind (arith, nat_lt, noted_at-length)
+session_noted : (ring : RingState) (tag : Tag) (outcome : Outcome) (s : SessionState)
+    → work_of_session ring (set_outcome_in_session tag outcome s) ≡ work_of_session ring s
+session_noted ring tag outcome s = grind (arith, nat_lt, set_outcome_of_request-length)
 
 pub sessions_noted : (ring : RingState) (tag : Tag) (outcome : Outcome) (open_ones : Sessions) → work_of_sessions ring (noted tag outcome open_ones) ≡ work_of_sessions ring open_ones
 sessions_noted ring tag outcome [] = refl

@@ -6,7 +6,7 @@ use Rattle.std.proofs.lemmas.Option.{none-some, same_Some}
 use Rattle.mc_route.specs.declared.outcomes.Outcome.{Outcome}
 use Rattle.mc_route.specs.declared.outcomes.Outcome.TheVariants.{Awaited, Lost}
 use Rattle.mc_link.specs.declared.turns.Tag.{Tag}
-use Rattle.mc_proxy.specs.SessionNoting.{with_outcome}
+use Rattle.mc_proxy.specs.SessionNoting.{set_outcome}
 use Rattle.mc_account.specs.Answered.{AreAnswers}
 use Rattle.mc_account.specs.Lookups.{AreAwaited, IsRoutedWithin, asked_at, command_at, outcome_at, outcome_in}
 use Rattle.mc_account.specs.Orders.{AreInOrder, Order, TakenRequest, entries_of, note, note_all, note_in, numbers_from, owns}
@@ -52,7 +52,7 @@ goes_then old middle new f g = record {
 }
 
 -- an outcome that is noted in a list of outcomes
-with_some : (at : ℕ) (outcome : Outcome) (xs : List Outcome) (a : ℕ) (q : Outcome) → slice_get xs a ≡ Some q → (r : Outcome) × (slice_get (with_outcome at outcome xs) a ≡ Some r)
+with_some : (at : ℕ) (outcome : Outcome) (xs : List Outcome) (a : ℕ) (q : Outcome) → slice_get xs a ≡ Some q → (r : Outcome) × (slice_get (set_outcome at outcome xs) a ≡ Some r)
 with_some at outcome [] zero q e = absurd (none-some q e)
 with_some at outcome [] (suc a) q e = absurd (none-some q e)
 with_some zero outcome (x ∷ xs) zero q e = (outcome, refl)
@@ -60,7 +60,7 @@ with_some zero outcome (x ∷ xs) (suc a) q e = (q, e)
 with_some (suc at) outcome (x ∷ xs) zero q e = (q, e)
 with_some (suc at) outcome (x ∷ xs) (suc a) q e = with_some at outcome xs a q e
 
-with_own : (at : ℕ) (outcome : Outcome) (xs : List Outcome) (q : Outcome) → slice_get xs at ≡ Some q → slice_get (with_outcome at outcome xs) at ≡ Some outcome
+with_own : (at : ℕ) (outcome : Outcome) (xs : List Outcome) (q : Outcome) → slice_get xs at ≡ Some q → slice_get (set_outcome at outcome xs) at ≡ Some outcome
 with_own zero outcome [] q e = absurd (none-some q e)
 with_own (suc at) outcome [] q e = absurd (none-some q e)
 with_own zero outcome (x ∷ xs) q e = refl
@@ -70,7 +70,7 @@ with_own (suc at) outcome (x ∷ xs) q e = with_own at outcome xs q e
 some_in : (t : Tag) (outcome : Outcome) (es : Order) (k a : ℕ) (q : Outcome) → outcome_in (slice_get es k) a ≡ Some q → (r : Outcome) × (outcome_in (slice_get (note t outcome es) k) a ≡ Some r)
 some_in t outcome [] zero a q e = absurd (none-some q e)
 some_in t outcome [] (suc k) a q e = absurd (none-some q e)
-some_in t outcome (x ∷ xs) zero a q e = (elim (owns t x) as (λ v. (r : Outcome) × (slice_get (if v then with_outcome t.atom outcome x.outcomes else x.outcomes) a ≡ Some r)) [
+some_in t outcome (x ∷ xs) zero a q e = (elim (owns t x) as (λ v. (r : Outcome) × (slice_get (if v then set_outcome t.atom outcome x.outcomes else x.outcomes) a ≡ Some r)) [
   | true ↦ with_some t.atom outcome x.outcomes a q e
   | false ↦ (q, e)
 ])
@@ -90,7 +90,7 @@ own_in t outcome (x ∷ xs) at zero q numbered own number e =
     let first : x.request ≡ at = cc in
     let its : x.request ≡ t.request = omega (arith, first, number) in
     let owned : owns t x ≡ true = and_from (x.session == t.session) (x.request == t.request) (eq-eqb x.session t.session own.0) (eq-eqb x.request t.request its) in
-    ap (λ (v : Bool). slice_get (if v then with_outcome t.atom outcome x.outcomes else x.outcomes) t.atom) owned ∙ with_own t.atom outcome x.outcomes q e
+    ap (λ (v : Bool). slice_get (if v then set_outcome t.atom outcome x.outcomes else x.outcomes) t.atom) owned ∙ with_own t.atom outcome x.outcomes q e
 own_in t outcome (x ∷ xs) at (suc k) q numbered own number e =
     let after : map (λ (y : TakenRequest). y.request) xs ≡ numbers_from (suc at) xs = cc in
     own_in t outcome xs (suc at) k q after own.1 (omega (arith, number)) e
