@@ -1,9 +1,11 @@
 //! A reader of requests, fed in pieces.
-ghost use Rattle.std.specs.Prelude.{◌≡◌, ◌<◌, ◌≤◌, ◌+◌, ◌↔◌, ℕ, List, [], ◌++◌, length, drop, vec_len, true, false, Some, IsTrue, IfOk, IfSome, OnOk, OnErr};
+ghost use Rattle.std.specs.Prelude.{◌≡◌, ◌<◌, ◌≤◌, ◌+◌, ◌↔◌, ℕ, List, [], ◌++◌, length, drop, vec_len, true, false, Some, IsTrue, IfSome, OnOk, OnErr};
+
+mod owned;
 
 use crate::peeks::{Front, LentGet, LentLine, Peek};
 use crate::unread::Unread;
-use mc_request::{Fault, ReadError, Request, Taken};
+use mc_request::{Fault, ReadError, Request};
 use std::alloc::Global;
 use std::marker::Model;
 
@@ -51,7 +53,7 @@ impl Reader {
     ghost use Rattle.mc_request_reader.specs.Reader.{fresh_reader, rest_of, kept_of, KeepsRest, KeepsLittle};
     ghost use Rattle.mc_request.specs.WellFormed.{is_well_formed};
     ghost use Rattle.mc_request.specs.declared.parts.Taken.{Taken};
-    ghost use Rattle.mc_request_reader.specs.Peeks.{Peeks, Shows, Gives, HasNone, IsAlone, IsWellFormedPeek, front_by, front_of, get_of, past};
+    ghost use Rattle.mc_request_reader.specs.Peeks.{Peeks, Shows, HasNone, IsAlone, IsWellFormedPeek, front_by, front_of, get_of, past};
 
     /// Makes a reader to which nothing has arrived. It takes no memory.
     pub fn new(alloc: Global) -> Self
@@ -100,28 +102,6 @@ impl Reader {
             self.unread.advance();
         }
         Ok(())
-    }
-
-    /// Consumes and returns the first request or fault that has arrived whole: its keys and its block are copied.
-    ///
-    /// At `Memory` it is not consumed, and nothing has changed.
-    pub fn next(&mut self) -> Result<Next, ReadError>
-        ensures given { IfOk result (λ next. Gives self.old next self.new) }
-        ensures little { KeepsLittle self.new }
-        ensures err { OnErr result (self.new ≡ self.old) }
-    {
-        match self.peek() {
-            Peek::First(asked, front) => {
-                let taken = asked.taken(self.alloc)?;
-                self.consume(front);
-                Ok(match taken {
-                    Taken::Whole(request) => Next::Request(request),
-                    Taken::Faulty(fault) => Next::Fault(fault),
-                })
-            }
-            Peek::More => Ok(Next::More),
-            Peek::Closed => Ok(Next::Closed),
-        }
     }
 
     /// Borrows the first request or fault that has arrived whole. [`Reader::consume`] consumes it.
