@@ -325,7 +325,7 @@ impl<K: Default + Drop> Clients<K> {
                     self.close(handler, key);
                 }
             }
-            AfterPump::Wait => handler.give_back(slot.client.number, KEPT_ROOM),
+            AfterPump::Wait => handler.shrink_if_idle(slot.client.number, KEPT_ROOM),
             AfterPump::Close => match slot.client.first.opening() {
                 Opening::Strange(stranger) => self.turn_away(handler, key, stranger),
                 _ => self.close(handler, key),
@@ -389,7 +389,7 @@ impl<K: Default + Drop> Clients<K> {
         if mem::replace(&mut slot.busy, false) {
             self.busy = true;
         } else {
-            handler.give_back(number, 0);
+            handler.shrink_if_idle(number, 0);
         }
         if handler.owes(number) {
             slot.used = moment;

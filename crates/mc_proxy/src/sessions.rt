@@ -14,7 +14,7 @@ use mc_request::{Asked, Taken};
 use mc_request_reader::{Front, LentGet, Peek, Reader};
 use mc_ring::Ring;
 use mc_route::{Losses, Outcome, Routed, goes_to, route};
-use mc_text::{give_back, let_go};
+use mc_text::{consume_front, shrink_if_idle};
 use std::alloc::Global;
 use std::collections::VecDeque;
 use std::marker::Model;
@@ -387,15 +387,15 @@ impl Session {
         requires { count ≤ length self.old.output }
         ensures { self.new ≡ record self.old { output = drop count self.old.output } }
     {
-        self.sent = let_go(&mut self.output, self.sent + count);
+        self.sent = consume_front(&mut self.output, self.sent + count);
     }
 
     /// Frees the memory of each empty buffer that has room for more than `kept` bytes or requests.
-    pub fn give_back(&mut self, kept: usize)
+    pub fn shrink_if_idle(&mut self, kept: usize)
         ensures { self.new ≡ self.old }
     {
-        self.reader.give_back(kept);
-        give_back(&mut self.output, kept);
+        self.reader.shrink_if_idle(kept);
+        shrink_if_idle(&mut self.output, kept);
         if self.unanswered.is_empty() && self.unanswered.capacity() > kept {
             self.unanswered.shrink_to_fit();
         }

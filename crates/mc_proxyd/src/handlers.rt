@@ -158,8 +158,8 @@ impl Handler<ClientState> for ProxyHandler {
         step_after(pumped)
     }
 
-    fn give_back(&mut self, number: u64, room: usize) {
-        self.proxy.give_back(number, room.min(CLIENT_ROOM));
+    fn shrink_if_idle(&mut self, number: u64, room: usize) {
+        self.proxy.shrink_if_idle(number, room.min(CLIENT_ROOM));
     }
 
     fn owes(&self, number: u64) -> bool {

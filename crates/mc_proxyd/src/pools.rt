@@ -209,7 +209,7 @@ impl Upstreams {
     pub fn sweep(&self, proxy: &mut Proxy, is_used: bool) {
         let kept = if is_used { KEPT_ROOM } else { 0 };
         for place in 0..self.upstreams.len() {
-            proxy.link_give_back(place, kept);
+            proxy.link_shrink_if_idle(place, kept);
         }
     }
 }

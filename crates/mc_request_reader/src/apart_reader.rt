@@ -211,12 +211,12 @@ impl ApartReader {
         }
     }
 
-    /// Frees the reserved memory, as [`Reader::give_back`] does.
-    pub fn give_back(&mut self, kept: usize)
+    /// Frees the reserved memory, as [`Reader::shrink_if_idle`] does.
+    pub fn shrink_if_idle(&mut self, kept: usize)
         ensures same { self.new ≡ self.old }
         ensures little { KeepsLittle self.new }
     {
-        self.reader.give_back(kept);
+        self.reader.shrink_if_idle(kept);
     }
 }
 

@@ -194,11 +194,11 @@ impl Reader {
     /// Frees the reserved memory, if no byte is kept and more than `kept` bytes are reserved. It is for a reader that will be
     /// idle for a while: the next feeds reserve anew. If bytes are kept nothing is moved, so a request that arrives in small
     /// pieces is not copied for each of them.
-    pub fn give_back(&mut self, kept: usize)
+    pub fn shrink_if_idle(&mut self, kept: usize)
         ensures same { self.new ≡ self.old }
         ensures little { KeepsLittle self.new }
     {
-        self.unread.give_back(kept);
+        self.unread.shrink_if_idle(kept);
     }
 
     /// Returns how many bytes the reader keeps: those that are not consumed, and the consumed ones that are not dropped yet,

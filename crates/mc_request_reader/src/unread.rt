@@ -5,7 +5,7 @@ use crate::peeks::{Front, LentGet, LentLine, Peek, REQUEST_LIMIT};
 use crate::searched::Searched;
 use crate::steps::{Arrival, arrival_of, first_asked, first_get, first_lone, is_whole};
 use mc_request::{Asked, Fault, ReadError};
-use mc_text::{Line, drop_front, give_back, let_go};
+use mc_text::{Line, consume_front, drain_front, shrink_if_idle};
 use std::alloc::Global;
 use std::marker::Model;
 
@@ -70,7 +70,7 @@ impl Unread {
         ensures dropping { result.dropping ≡ None }
         ensures closed { result.closed ≡ false }
     {
-        let start = let_go(&mut buffer, taken);
+        let start = consume_front(&mut buffer, taken);
         Unread {
             buffer,
             start,
@@ -194,7 +194,7 @@ impl Unread {
     fn move_to_front(&mut self)
         ensures { self.new ≡ record self.old { held = length self.old.unread } }
     {
-        drop_front(&mut self.buffer, self.start);
+        drain_front(&mut self.buffer, self.start);
         self.start = 0;
     }
 
@@ -375,7 +375,7 @@ impl Unread {
             self.buffer.clear();
             self.start = 0;
         } else {
-            self.start = let_go(&mut self.buffer, self.start + front.size);
+            self.start = consume_front(&mut self.buffer, self.start + front.size);
         }
         self.searched = Searched::Without(0);
         self.wanted = 0;
@@ -392,10 +392,10 @@ impl Unread {
     }
 
     /// Frees the reserved memory, if nothing is kept and more than `kept` bytes are reserved.
-    pub fn give_back(&mut self, kept: usize)
+    pub fn shrink_if_idle(&mut self, kept: usize)
         ensures { self.new ≡ self.old }
     {
-        give_back(&mut self.buffer, kept);
+        shrink_if_idle(&mut self.buffer, kept);
     }
 
     /// Returns how many bytes are kept.

@@ -12,7 +12,7 @@ use mc_request::{CommandLine, command_line};
 use mc_request_reader::{ApartReader, Front, LentGet, Peek};
 use mc_store::Store;
 use mc_stream::{Gather, NoWriter};
-use mc_text::{give_back, let_go};
+use mc_text::{consume_front, shrink_if_idle};
 use std::alloc::Global;
 use std::io;
 use std::io::Read;
@@ -366,14 +366,14 @@ impl Connection {
         requires { count ≤ length self.old.output }
         ensures { self.new ≡ record self.old { output = drop count self.old.output } }
     {
-        self.sent = let_go(&mut self.output, self.sent + count);
+        self.sent = consume_front(&mut self.output, self.sent + count);
     }
 
     /// Frees the memory of each buffer that holds no byte, if more than `kept` bytes are reserved for it.
-    pub fn give_back(&mut self, kept: usize)
+    pub fn shrink_if_idle(&mut self, kept: usize)
         ensures { self.new ≡ self.old }
     {
-        self.reader.give_back(kept);
-        give_back(&mut self.output, kept);
+        self.reader.shrink_if_idle(kept);
+        shrink_if_idle(&mut self.output, kept);
     }
 }

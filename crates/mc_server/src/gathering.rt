@@ -16,7 +16,7 @@ use mc_cache::Cache;
 use mc_reply::{KEY_ROOM, LINE_ROOM, write_end, write_head};
 use mc_store::{Hint, Store};
 use mc_stream::Gather;
-use mc_text::{WordIter, append, let_go};
+use mc_text::{WordIter, append, consume_front};
 
 /// A value of this many bytes or more is written without a copy: 64 KiB. Copying a shorter one costs no more than that saves.
 pub const GATHER_MIN: usize = 65_536;
@@ -168,7 +168,7 @@ fn put_out<W: Gather>(sent: usize, output: &mut Vec<u8>, value: &[u8], writer: &
     append(output, value_left);
     append(output, end_left);
     Put {
-        sent: let_go(output, sent + taken),
+        sent: consume_front(output, sent + taken),
         went,
     }
 }

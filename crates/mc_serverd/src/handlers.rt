@@ -124,14 +124,14 @@ impl<S: Store + Drop> Handler<()> for ServerHandler<S> {
         }
         self.note_refused_stores();
         if !self.server.holds_reserve(self.reserve) {
-            self.server.give_back(client.number, 0);
+            self.server.shrink_if_idle(client.number, 0);
             let _ = self.server.keep_reserve(self.reserve);
         }
         step_after(pumped)
     }
 
-    fn give_back(&mut self, number: u64, room: usize) {
-        self.server.give_back(number, room);
+    fn shrink_if_idle(&mut self, number: u64, room: usize) {
+        self.server.shrink_if_idle(number, room);
     }
 
     fn owes(&self, number: u64) -> bool {

@@ -4,7 +4,7 @@ ghost use Rattle.mc_proxy.specs.SessionState.{link_at};
 
 use mc_link::Tag;
 use mc_proxy::Proxy;
-use mc_text::let_go;
+use mc_text::consume_front;
 use std::alloc::{AllocError, Global};
 use std::collections::VecDeque;
 use std::marker::Model;
@@ -95,7 +95,7 @@ impl StaleConnection {
         ensures { self.new ≡ record self.old { going = drop count self.old.going } }
     {
         let moved = count.min(self.going().len());
-        self.arrived = let_go(&mut self.bytes, self.arrived + moved);
+        self.arrived = consume_front(&mut self.bytes, self.arrived + moved);
     }
 
     /// The tag of the command that the server takes next.
