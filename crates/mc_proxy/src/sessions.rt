@@ -111,7 +111,7 @@ impl Session {
         ensures links_kept { OnErr result (states links.new ≡ states links.old) }
         ensures emptied { queue.new.items ≡ [] }
     {
-        if self.reader.is_short() {
+        if self.reader.needs_more() {
             return Ok(SessionTurn::Idle);
         }
         let Some(get) = self.reader.peek_get() else {

@@ -30,7 +30,7 @@ pub enum Next {
 /// `consume` it is known whether something is whole. If nothing is, no call reads a byte until more arrive, with one exception. If
 /// a `consume` brought a short line to the front, of at most 512 bytes, each look and each [`Reader::ready`] reads the words of it
 /// that may announce a block. That lasts until the next feed. If something is whole, `ready` reads no byte, and [`Reader::peek`],
-/// [`Reader::peek_get`] and [`Reader::peek_lone`] each read what is first, at each call: its line, and no more than 15 bytes behind
+/// [`Reader::peek_get`] and [`Reader::peek_blockless`] each read what is first, at each call: its line, and no more than 15 bytes behind
 /// that. If nothing is whole, a reader keeps fewer than [`REQUEST_LIMIT`](crate::REQUEST_LIMIT) bytes.
 #[derive(Drop)]
 pub struct Reader {
@@ -135,12 +135,12 @@ impl Reader {
     /// Its leading spaces are read, 16 bytes at a time, so up to 15 bytes behind them too, and the byte before its line feed. It takes
     /// no memory, and copies nothing.
     #[inline(always)]
-    pub fn peek_lone(&self) -> Option<LentLine<'_>>
+    pub fn peek_blockless(&self) -> Option<LentLine<'_>>
         ensures seen { IfSome result (λ line. (what : Taken) → IsAlone line what → Shows self.now what (front_by line what)) }
         ensures well_formed { IfSome result (λ line. (what : Taken) → IsAlone line what → is_well_formed what ≡ true) }
         ensures little { KeepsLittle self.now }
     {
-        self.unread.peek_lone()
+        self.unread.peek_blockless()
     }
 
     /// Returns the bytes that have arrived and are not consumed: what [`Reader::peek`] shows begins with them. It reads none of them.
@@ -155,11 +155,11 @@ impl Reader {
     /// Returns whether it is known that nothing is whole until more bytes arrive: then [`Reader::peek`] would show [`Peek::More`].
     /// It reads no byte, and copies nothing. False says nothing.
     #[inline(always)]
-    pub fn is_short(&self) -> bool
+    pub fn needs_more(&self) -> bool
         ensures short { result ≡ true → HasNone self.now self.now }
         ensures little { KeepsLittle self.now }
     {
-        self.unread.is_short()
+        self.unread.needs_more()
     }
 
     /// Returns whether a whole request or fault has arrived, which [`Reader::next`] would return. It takes no

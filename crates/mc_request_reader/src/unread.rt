@@ -279,7 +279,7 @@ impl Unread {
 
     /// Borrows the first line, if its end is known and what follows its leading spaces begins like no storage command.
     #[inline(always)]
-    pub fn peek_lone(&self) -> Option<LentLine<'_>>
+    pub fn peek_blockless(&self) -> Option<LentLine<'_>>
         ensures seen { IfSome result (λ line. (what : Taken) → IsAlone line what → Shows self.now what (front_by line what)) }
         ensures well_formed { IfSome result (λ line. (what : Taken) → IsAlone line what → is_well_formed what ≡ true) }
     {
@@ -310,7 +310,7 @@ impl Unread {
 
     /// Returns whether it is known that nothing is whole until more bytes arrive. It reads no byte.
     #[inline(always)]
-    pub fn is_short(&self) -> bool
+    pub fn needs_more(&self) -> bool
         ensures { result ≡ true → HasNone self.now self.now }
     {
         if self.closed {

@@ -193,7 +193,7 @@ impl Connection {
         ensures writer_kept { OnErr result (writer.new ≡ writer.old) }
     {
         *went = 0;
-        if self.reader.is_short() {
+        if self.reader.needs_more() {
             return Ok(Limited::Turned(Turn::Idle));
         }
         if let Some(get) = self.reader.peek_get() {
@@ -252,7 +252,7 @@ impl Connection {
         ensures err { OnErr result (self.new ≡ self.old) }
         ensures cache_kept { OnErr result (cache.new ≡ cache.old) }
     {
-        match self.reader.peek_lone() {
+        match self.reader.peek_blockless() {
             None => {
                 if self.reader.has_set()
                     && let Some(turn) = self.turn_set(cache, moment, limit)

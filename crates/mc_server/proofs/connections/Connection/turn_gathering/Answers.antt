@@ -9,9 +9,9 @@ use Rattle.mc_server.proofs.RoomLemmas.{room_within}
 use Rattle.mc_server.proofs.connections.Connection.turn_gathering.Goals as goal
 
 -- nothing is pending
-pub returns-then-is_short-clause-turn : goal.returns-then-is_short-clause-turn
-returns-then-is_short-clause-turn g c number =
-    (refl, keeps_same _, rw (← c.self.view_is) (record { none = c.is_short.ensures.short c.if-is_short.true; cache = refl; output = refl }))
+pub returns-then-needs_more-clause-turn : goal.returns-then-needs_more-clause-turn
+returns-then-needs_more-clause-turn g c number =
+    (refl, keeps_same _, rw (← c.self.view_is) (record { none = c.needs_more.ensures.short c.if-needs_more.true; cache = refl; output = refl }))
 
 -- the answer may be too large
 pub returns-then-is_passed_by_get-clause-turn : goal.returns-then-is_passed_by_get-clause-turn

@@ -1,7 +1,7 @@
 use Rattle.std.proofs.Common.{arith}
 use Rattle.std.proofs.lemmas.Bool.Decides.{nat_tests}
 use Rattle.mc_request_reader.proofs.ApartLemmas.{short_beside}
-use Rattle.mc_request_reader.proofs.apart.Apart.is_short.Goals as goal
+use Rattle.mc_request_reader.proofs.apart.Apart.needs_more.Goals as goal
 
 pub returns : goal.returns
 returns c =
