@@ -17,10 +17,10 @@ use Rattle.mc_proxy.specs.Emits.{is_told}
 use Rattle.mc_proxy.specs.Sending.{at_once, handed, handed_to, tag_of}
 use Rattle.mc_proxy.specs.SessionState.{link_at, with_link}
 use Rattle.mc_account.specs.Orders.{Order, Tagged, TakenRequest, commands_from, commands_in, commands_to, outcomes_from, outcomes_in, outcomes_to}
-use Rattle.mc_account.specs.Lanes.{CanHave, Lane, LaneHolds, LinkHolds, as_waiting, spelled, told}
+use Rattle.mc_account.specs.Lanes.{CanHave, Lane, LaneHolds, LinkHolds, as_waiting, replies_text, spelled}
 use Rattle.mc_account.proofs.OpenSessions.{own_number}
 use Rattle.mc_account.proofs.OrderLemmas.{commands-push, outcomes-push, passes_joined}
-use Rattle.mc_account.proofs.LaneLemmas.{can-append, can_length, link_own, link_other, spelled-append, told-append}
+use Rattle.mc_account.proofs.LaneLemmas.{can-append, can_length, link_own, link_other, spelled-append, replies_text-append}
 
 -- a link to which commands were sent in order
 abbrev pub received : List Tagged → LinkState → LinkState
@@ -126,7 +126,7 @@ lane_taken place order e lane link awaited h =
           ∙ ap (λ (cs : List Tagged). spelled cs) (sym commands);
       came = h.came
           ∙ ap (λ (bytes : List ℕ). bytes ++ link.unread)
-          (sym (told-append (commands_to place (drop lane.since order)) (commands_in place e) lane.replies h.can) ∙ ap (λ (cs : List Tagged). told cs lane.replies) (sym commands));
+          (sym (replies_text-append (commands_to place (drop lane.since order)) (commands_in place e) lane.replies h.can) ∙ ap (λ (cs : List Tagged). replies_text cs lane.replies) (sym commands));
       can = subst (λ (cs : List Tagged). CanHave cs lane.replies) (sym commands) (can-append (commands_to place (drop lane.since order)) (commands_in place e) lane.replies h.can);
       waiting =
           ap (λ (ws : List Waiting). ws ++ as_waiting (commands_in place e)) h.waiting

@@ -21,7 +21,7 @@ use Rattle.mc_link.specs.declared.turns.Tag.{Tag}
 use Rattle.mc_proxy.specs.Emits.{is_told}
 use Rattle.mc_proxy.specs.SessionState.{link_at, with_link}
 use Rattle.mc_account.specs.Orders.{Order, Tagged, IsSized, commands_to, is_complete, note, note_in, outcomes_from, outcomes_in, outcomes_to}
-use Rattle.mc_account.specs.Lanes.{CanHave, IsDown, Lane, LaneHolds, LinkHolds, as_waiting, fresh_lane, spelled, told}
+use Rattle.mc_account.specs.Lanes.{CanHave, IsDown, Lane, LaneHolds, LinkHolds, as_waiting, fresh_lane, replies_text, spelled}
 use Rattle.mc_account.proofs.OpenSessions.{own_number}
 use Rattle.mc_account.proofs.OrderLemmas.{commands-append, commands-note, lengths_to, passes_joined, passes_parts, told_whole}
 use Rattle.mc_account.proofs.TagLemmas.{awaited, awaited-append, awaited_to, count, count-append, count_to, count_to_both, owners, owners-append, same_tag, same_tag_self, incomplete-append, incomplete_owners, weight}
@@ -47,10 +47,11 @@ pub spelled-append : (cs ds : List Tagged) → spelled (cs ++ ds) ≡ spelled cs
 spelled-append [] ds = refl
 spelled-append (c ∷ cs) ds = ap (λ (bytes : List ℕ). spelling_of_atom c.0 ++ bytes) (spelled-append cs ds) ∙ sym (append_assoc (spelling_of_atom c.0) (spelled cs) (spelled ds))
 
-pub told-append : (cs ds : List Tagged) (replies : List (AReply (List ℕ))) → CanHave cs replies → told (cs ++ ds) replies ≡ told cs replies
-told-append cs ds [] can = refl
-told-append [] ds (r ∷ rs) can = absurd can
-told-append (c ∷ cs) ds (r ∷ rs) can = ap (λ (bytes : List ℕ). spelling_of (head_of c.0) r ++ bytes) (told-append cs ds rs can.1)
+pub replies_text-append : (cs ds : List Tagged) (replies : List (AReply (List ℕ))) → CanHave cs replies
+    → replies_text (cs ++ ds) replies ≡ replies_text cs replies
+replies_text-append cs ds [] can = refl
+replies_text-append [] ds (r ∷ rs) can = absurd can
+replies_text-append (c ∷ cs) ds (r ∷ rs) can = ap (λ (bytes : List ℕ). spelling_of (head_of c.0) r ++ bytes) (replies_text-append cs ds rs can.1)
 
 pub can-append : (cs ds : List Tagged) (replies : List (AReply (List ℕ))) → CanHave cs replies → CanHave (cs ++ ds) replies
 can-append cs ds [] can = tt
@@ -63,14 +64,14 @@ can_length [] (r ∷ rs) can = absurd can
 can_length (c ∷ cs) (r ∷ rs) can = omega (arith, can_length cs rs can.1)
 
 -- one reply more
-told-push : (front back : List Tagged) (c : Tagged) (replies : List (AReply (List ℕ))) (reply : AReply (List ℕ)) → length front ≡ length replies
-    → told (front ++ c ∷ back) (replies ++ reply ∷ []) ≡ told (front ++ c ∷ back) replies ++ spelling_of (head_of c.0) reply
-told-push [] back c [] reply h = append-nil (spelling_of (head_of c.0) reply)
-told-push [] back c (r ∷ rs) reply h = absurd cc
-told-push (f ∷ fs) back c [] reply h = absurd cc
-told-push (f ∷ fs) back c (r ∷ rs) reply h =
-    ap (λ (bytes : List ℕ). spelling_of (head_of f.0) r ++ bytes) (told-push fs back c rs reply (cc))
-    ∙ sym (append_assoc (spelling_of (head_of f.0) r) (told (fs ++ c ∷ back) rs) (spelling_of (head_of c.0) reply))
+replies_text-push : (front back : List Tagged) (c : Tagged) (replies : List (AReply (List ℕ))) (reply : AReply (List ℕ)) → length front ≡ length replies
+    → replies_text (front ++ c ∷ back) (replies ++ reply ∷ []) ≡ replies_text (front ++ c ∷ back) replies ++ spelling_of (head_of c.0) reply
+replies_text-push [] back c [] reply h = append-nil (spelling_of (head_of c.0) reply)
+replies_text-push [] back c (r ∷ rs) reply h = absurd cc
+replies_text-push (f ∷ fs) back c [] reply h = absurd cc
+replies_text-push (f ∷ fs) back c (r ∷ rs) reply h =
+    ap (λ (bytes : List ℕ). spelling_of (head_of f.0) r ++ bytes) (replies_text-push fs back c rs reply (cc))
+    ∙ sym (append_assoc (spelling_of (head_of f.0) r) (replies_text (fs ++ c ∷ back) rs) (spelling_of (head_of c.0) reply))
 
 can-push : (front back : List Tagged) (c : Tagged) (replies : List (AReply (List ℕ))) (reply : AReply (List ℕ)) → length front ≡ length replies
     → can_have (head_of c.0) reply ≡ true → CanHave (front ++ c ∷ back) replies → CanHave (front ++ c ∷ back) (replies ++ reply ∷ [])
@@ -221,7 +222,7 @@ lane_same : (place : ℕ) (order longer : Order) (lane : Lane) (link : LinkState
 lane_same place order longer lane link long commands outcomes before h = record {
   since = omega (arith, long, h.since);
   put = h.put ∙ ap (λ (cs : List Tagged). spelled cs) (sym commands);
-  came = h.came ∙ ap (λ (cs : List Tagged). told cs lane.replies ++ link.unread) (sym commands);
+  came = h.came ∙ ap (λ (cs : List Tagged). replies_text cs lane.replies ++ link.unread) (sym commands);
   can = subst (λ (cs : List Tagged). CanHave cs lane.replies) (sym commands) h.can;
   waiting = h.waiting ∙ ap (λ (cs : List Tagged). as_waiting (drop (length lane.replies) cs)) (sym commands);
   outcomes = outcomes ∙ h.outcomes;
@@ -291,11 +292,11 @@ lane_replied place order lane old tag reply new sized once takes h =
       put = ap (λ (bytes : List ℕ). lane.out ++ bytes) output ∙ h.put ∙ ap (λ (cs : List Tagged). spelled cs) (commands ∙ sym now);
       came =
           h.came
-          ∙ ap₂ (λ (cs : List Tagged) (bytes : List ℕ). told cs lane.replies ++ bytes) commands takes.spelled
-          ∙ sym (append_assoc (told (p.front ++ o.first ∷ o.others) lane.replies) (spelling_of takes.head reply) new.unread)
-          ∙ ap (λ (head : Atom (Unit {0})). (told (p.front ++ o.first ∷ o.others) lane.replies ++ spelling_of head reply) ++ new.unread) (sym o.head)
-          ∙ ap (λ (bytes : List ℕ). bytes ++ new.unread) (sym (told-push p.front o.others o.first lane.replies reply front_len))
-          ∙ ap (λ (cs : List Tagged). told cs (lane.replies ++ reply ∷ []) ++ new.unread) (sym now);
+          ∙ ap₂ (λ (cs : List Tagged) (bytes : List ℕ). replies_text cs lane.replies ++ bytes) commands takes.spelled
+          ∙ sym (append_assoc (replies_text (p.front ++ o.first ∷ o.others) lane.replies) (spelling_of takes.head reply) new.unread)
+          ∙ ap (λ (head : Atom (Unit {0})). (replies_text (p.front ++ o.first ∷ o.others) lane.replies ++ spelling_of head reply) ++ new.unread) (sym o.head)
+          ∙ ap (λ (bytes : List ℕ). bytes ++ new.unread) (sym (replies_text-push p.front o.others o.first lane.replies reply front_len))
+          ∙ ap (λ (cs : List Tagged). replies_text cs (lane.replies ++ reply ∷ []) ++ new.unread) (sym now);
       can = subst (λ (cs : List Tagged). CanHave cs (lane.replies ++ reply ∷ [])) (sym now)
           (can-push p.front o.others o.first lane.replies reply front_len (subst (λ (head : Atom (Unit {0})). can_have head reply ≡ true) (sym o.head) takes.can)
           (subst (λ (cs : List Tagged). CanHave cs lane.replies) commands h.can));

@@ -33,10 +33,10 @@ spelled [] = []
 spelled (command ∷ commands) = spelling_of_atom command.0 ++ spelled commands
 
 -- the spellings of replies to the first of these commands, joined
-abbrev pub told : List Tagged → List (AReply (List ℕ)) → List ℕ
-told commands [] = []
-told [] (reply ∷ replies) = []
-told (command ∷ commands) (reply ∷ replies) = spelling_of (head_of command.0) reply ++ told commands replies
+abbrev pub replies_text : List Tagged → List (AReply (List ℕ)) → List ℕ
+replies_text commands [] = []
+replies_text [] (reply ∷ replies) = []
+replies_text (command ∷ commands) (reply ∷ replies) = spelling_of (head_of command.0) reply ++ replies_text commands replies
 
 -- each is a reply that its command can have
 abbrev pub CanHave : List Tagged → List (AReply (List ℕ)) → Type 0
@@ -54,7 +54,7 @@ as_waiting commands = map (λ command. (head_of command.0, command.1)) commands
 pub record LaneHolds (place : ℕ) (order : Order) (lane : Lane) (link : LinkState) : Type 0 where
   pub since : lane.since ≤ length order
   pub put : lane.out ++ link.output ≡ spelled (sent_on place order lane)
-  pub came : lane.came ≡ told (sent_on place order lane) lane.replies ++ link.unread
+  pub came : lane.came ≡ replies_text (sent_on place order lane) lane.replies ++ link.unread
   pub can : CanHave (sent_on place order lane) lane.replies
   pub waiting : link.waiting ≡ as_waiting (drop (length lane.replies) (sent_on place order lane))
   pub outcomes : outcomes_to place (drop lane.since order) ≡ map (λ reply. Reply reply) lane.replies ++ map (λ _. Awaited) link.waiting

@@ -10,7 +10,7 @@ use Rattle.mc_link.specs.Turns.{HasStrange}
 use Rattle.mc_server.specs.ServerState.{ConnectionState}
 use Rattle.mc_server.specs.Holds.{Holds}
 use Rattle.mc_cache.specs.CacheState.{CacheState}
-use Rattle.mc_account.specs.Lanes.{CanHave, Lane, LaneHolds, sent_on, told}
+use Rattle.mc_account.specs.Lanes.{CanHave, Lane, LaneHolds, replies_text, sent_on}
 use Rattle.mc_account.specs.Orders.{Order, Tagged}
 use Rattle.mc_history.specs.Made.{AreMade, Made, commands_on, read_as, replies_on, taking_of}
 
@@ -22,7 +22,7 @@ is_good command = is_good_atom command.0
 pub record IsFront (commands : List Tagged) (replies all : List (AReply (List ℕ))) (bytes : List ℕ) : Type 0 where
   pub later : List (AReply (List ℕ))
   pub all_is : all ≡ replies ++ later
-  pub bytes_are : bytes ≡ told (drop (length replies) commands) later
+  pub bytes_are : bytes ≡ replies_text (drop (length replies) commands) later
   pub can : CanHave (drop (length replies) commands) later
 
 -- A link that is up and the server's connection at its other end, by what the server made of the commands that arrived, and which

@@ -23,7 +23,7 @@ use Rattle.mc_account.specs.Orders.{Order}
 use Rattle.mc_history.specs.declared.entries.Entry.{Entry}
 use Rattle.mc_history.specs.Histories.{tag_in}
 use Rattle.mc_cache.specs.Settling.{is_dead_at}
-use Rattle.mc_cache.specs.Showing.{told}
+use Rattle.mc_cache.specs.Showing.{meta_reply_of}
 use Rattle.mc_cache.specs.Step.{made_by, numbered}
 use Rattle.mc_registers.specs.Guarantees.{AreQuiet, has_written, is_done, update_in}
 use Rattle.mc_registers.specs.Recache.{is_win}
@@ -67,7 +67,7 @@ if_shown false flags = tt
 
 -- an item that `mg` makes is shown with W
 abbrev told_won : Show → ℕ → Turned → Turned
-told_won show moment o = (o.0, told show moment Won o.0 o.1)
+told_won show moment o = (o.0, meta_reply_of show moment Won o.0 o.1)
 
 none_made : (create : Option ℤ) (given : Given) (get : MetaGet) (moment : ℕ) (shown : Shown) (value : List ℕ) → get.create ≡ create
     → let o : Turned = option_map_or

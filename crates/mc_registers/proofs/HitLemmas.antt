@@ -17,12 +17,12 @@ use Rattle.mc_reply.specs.declared.replies.Marks.TheVariants.{Plain}
 use Rattle.mc_reply.specs.declared.replies.Reply.{Reply}
 use Rattle.mc_reply.specs.declared.replies.Reply.TheVariants.{Stored, NotStored, Exists, NotFound, Deleted, Touched, Flushed, Number, Miss, Hit, Meta, Fault}
 use Rattle.mc_cache.specs.Settling.{is_dead_at}
-use Rattle.mc_cache.specs.Showing.{told}
+use Rattle.mc_cache.specs.Showing.{meta_reply_of}
 use Rattle.mc_cache.specs.Step.{Content, numbered, compared, unmet, unstored, content_by}
 use Rattle.mc_cache_laws.specs.OneMap.{KeyOutcome}
 use Rattle.mc_registers.specs.Registers.{Given, put_as, unless, store_as, update_as, register_step, Done, turn, last_by, IsRun}
 use Rattle.mc_registers.specs.Guarantees.{AreQuiet, IsSteadyRun, is_done, update_in}
-use Rattle.mc_registers.proofs.LeftLemmas.{IsLeft, told-done}
+use Rattle.mc_registers.proofs.LeftLemmas.{IsLeft, meta_reply_of-done}
 use Rattle.mc_registers.proofs.GuaranteeLemmas.{IsPast, cas-past, quiet-run, read-shows, run-part}
 
 -- nothing is stored at first: before a hit a command may have written
@@ -102,21 +102,21 @@ store-told given held compare mode new =
     go None refused (Err fault) = inr refl
 
 -- the reply to a meta command says so too
-told-refused : (show : Show) (moment : ℕ) (marks : Marks) (held : Option Body) (reply : Reply (List ℕ)) → is_refused (told show moment marks held reply) ≡ is_refused reply
-told-refused show moment marks None Stored = refl
-told-refused show moment marks (Some body) Stored = refl
-told-refused show moment marks None (Number number) = refl
-told-refused show moment marks (Some body) (Number number) = refl
-told-refused show moment marks held Deleted = refl
-told-refused show moment marks held NotStored = refl
-told-refused show moment marks held Exists = refl
-told-refused show moment marks held NotFound = refl
-told-refused show moment marks held Touched = refl
-told-refused show moment marks held Flushed = refl
-told-refused show moment marks held Miss = refl
-told-refused show moment marks held (Hit flags cas value) = refl
-told-refused show moment marks held (Meta shown value) = refl
-told-refused show moment marks held (Fault fault) = refl
+meta_reply_of-refused : (show : Show) (moment : ℕ) (marks : Marks) (held : Option Body) (reply : Reply (List ℕ)) → is_refused (meta_reply_of show moment marks held reply) ≡ is_refused reply
+meta_reply_of-refused show moment marks None Stored = refl
+meta_reply_of-refused show moment marks (Some body) Stored = refl
+meta_reply_of-refused show moment marks None (Number number) = refl
+meta_reply_of-refused show moment marks (Some body) (Number number) = refl
+meta_reply_of-refused show moment marks held Deleted = refl
+meta_reply_of-refused show moment marks held NotStored = refl
+meta_reply_of-refused show moment marks held Exists = refl
+meta_reply_of-refused show moment marks held NotFound = refl
+meta_reply_of-refused show moment marks held Touched = refl
+meta_reply_of-refused show moment marks held Flushed = refl
+meta_reply_of-refused show moment marks held Miss = refl
+meta_reply_of-refused show moment marks held (Hit flags cas value) = refl
+meta_reply_of-refused show moment marks held (Meta shown value) = refl
+meta_reply_of-refused show moment marks held (Fault fault) = refl
 
 step-told : (given : Given) (held : Option Body) (atom : Atom (List ℕ)) (moment : ℕ) (mode : StoreMode) (compare : Option ℕ) (key : List ℕ) (flags : ℕ) (exptime : ℤ) (value : List ℕ)
     → update_in atom ≡ Some (Store mode compare key flags exptime value) → IsToldOf (register_step given held atom moment).1
@@ -132,8 +132,8 @@ step-told given held (atoms.Meta (metas.Update update show)) moment mode compare
     let same : IsToldOf o.1 = subst (λ (u : Update (List ℕ) (List ℕ)). IsToldOf (update_as given held u moment).1) (sym its)
     (store-told given held compare mode (record { flags = flags; expiry = deadline_of exptime moment; won = false; value = value })) in
     elim same [
-      | inl done ↦ inl (told-done show moment Plain o.0 o.1 ∙ done)
-      | inr refused ↦ inr (told-refused show moment Plain o.0 o.1 ∙ refused)
+      | inl done ↦ inl (meta_reply_of-done show moment Plain o.0 o.1 ∙ done)
+      | inr refused ↦ inr (meta_reply_of-refused show moment Plain o.0 o.1 ∙ refused)
     ]
 
 pub run-told : (front back : List Done) (e : Done) (last : ℕ) (held : Option Body) (mode : StoreMode) (compare : Option ℕ) (key : List ℕ) (flags : ℕ) (exptime : ℤ) (value : List ℕ)

@@ -24,7 +24,7 @@ use Rattle.mc_server.specs.Served.{ServedRequest}
 use Rattle.mc_proxy.specs.SessionState.{SessionState, link_at}
 use Rattle.mc_proxy.specs.ProxyState.{ProxyState, output_of, session_at, unanswered_of}
 use Rattle.mc_proxy.specs.Turns.{waiting_of}
-use Rattle.mc_account.specs.Lanes.{CanHave, Lane, LaneHolds, as_waiting, spelled, told}
+use Rattle.mc_account.specs.Lanes.{CanHave, Lane, LaneHolds, as_waiting, replies_text, spelled}
 use Rattle.mc_account.specs.Orders.{IsSized, IsToldAs, Order, Tagged, TakenRequest, answers_of, commands_to, entries_of, outcomes_from, outcomes_in, outcomes_to, taken_of, unanswered_of as as_unanswered}
 use Rattle.mc_account.specs.Holds.{ProxyHolds, SessionHolds, SessionHoldsAt, IsUnused}
 use Rattle.mc_account.proofs.OpenSessions.{own_number}
@@ -114,7 +114,7 @@ home_made ring opening texts outs order lanes proxy began ended server sv holds 
     let whole : drop lane.since order ≡ order = ap (λ n. drop n order) since in
     let can_all_of : CanHave (commands_to server order) (map (λ (m : Made). m.reply) sv.made) = can_all opening sv.made (commands_to server order) sv.commands_are sv.made_is in
     let can_lane : CanHave (commands_to server order) lane.replies = subst (λ (es : Order). CanHave (commands_to server es) lane.replies) whole h.can in
-    let came : lane.came ≡ told (commands_to server order) lane.replies ++ link.unread = subst (λ (es : Order). lane.came ≡ told (commands_to server es) lane.replies ++ link.unread) whole h.came in
+    let came : lane.came ≡ replies_text (commands_to server order) lane.replies ++ link.unread = subst (λ (es : Order). lane.came ≡ replies_text (commands_to server es) lane.replies ++ link.unread) whole h.came in
     let front = told_front (commands_to server order) lane.replies (map (λ (m : Made). m.reply) sv.made) link.unread good can_lane can_all_of (sym came ∙ sv.told_is) in
     let waits : as_waiting (drop (length lane.replies) (commands_to server order)) ≡ [] =
     sym (subst (λ (es : Order). link.waiting ≡ as_waiting (drop (length lane.replies) (commands_to server es))) whole h.waiting) ∙ none in

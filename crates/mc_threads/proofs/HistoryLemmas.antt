@@ -18,7 +18,7 @@ use Rattle.mc_cache_laws.proofs.GoodStepLemmas.{answers_as_it_can, stays_good}
 use Rattle.mc_server.specs.Served.{IsLegalAt, ServedRequest, answer_after, cache_after}
 use Rattle.mc_server.specs.Histories.{IsLegalHistory, answers_to, replayed, taken_of}
 use Rattle.mc_server.proofs.HistoryLemmas.{answers-append}
-use Rattle.mc_account.specs.Lanes.{spelled, told}
+use Rattle.mc_account.specs.Lanes.{replies_text, spelled}
 use Rattle.mc_account.specs.Orders.{Tagged}
 use Rattle.mc_history.specs.Generations.{is_good}
 use Rattle.mc_history.specs.Made.{AreMade, Made, commands_on, read_as, replies_on, taking_of}
@@ -38,7 +38,7 @@ pub record IsServed (opening : CacheState) (began ended : List ℕ) (commands : 
   pub made : List Made
   pub made_is : AreMade opening made
   pub commands_are : map (λ (m : Made). m.command) made ≡ commands
-  pub told_is : sent ≡ told commands (map (λ (m : Made). m.reply) made)
+  pub told_is : sent ≡ replies_text commands (map (λ (m : Made). m.reply) made)
   pub quit : ℕ
   pub clocked : ended ≡ began ++ (map (λ (m : Made). m.moment) made ++ quit ∷ [])
 
@@ -165,8 +165,8 @@ served opening began ended received sent history commands good_cache h came good
           ∙ ap (λ (bytes : List ℕ). answers_to 0 opening (map taking_of t.made) ++ bytes) (last_silent (replayed opening (map taking_of t.made)) t.last t.last_is)
           ∙ append-nil (answers_to 0 opening (map taking_of t.made))
           ∙ told_on 0 opening t.made t.made_is
-          ∙ ap (λ (cs : List Tagged). told cs (replies_on 0 t.made)) (commands_first t.made t.first ∙ t.commands_are)
-          ∙ ap (λ (rs : List (AReply (List ℕ))). told commands rs) (replies_first t.made t.first);
+          ∙ ap (λ (cs : List Tagged). replies_text cs (replies_on 0 t.made)) (commands_first t.made t.first ∙ t.commands_are)
+          ∙ ap (λ (rs : List (AReply (List ℕ))). replies_text commands rs) (replies_first t.made t.first);
       quit = t.last.moment;
       clocked = h.clocked ∙ ap (λ (es : List ServedRequest). began ++ moments_of es) t.history_is
           ∙ ap (λ (ts : List ℕ). began ++ ts) (map-append (λ (e : ServedRequest). e.moment) (map taking_of t.made) (t.last ∷ []))

@@ -27,7 +27,7 @@ use Rattle.mc_proxy.specs.LinkTurns.{Answers}
 use Rattle.mc_proxy.specs.Noting.{noted}
 use Rattle.mc_proxy.specs.ProxyState.{ProxyState, Sessions, output_of, sent_by, session_at, session_in, updated, with_fresh}
 use Rattle.mc_proxy.specs.Turns.{Alone, Steps}
-use Rattle.mc_account.specs.Lanes.{Lane, LaneHolds, LinkHolds, told}
+use Rattle.mc_account.specs.Lanes.{Lane, LaneHolds, LinkHolds, replies_text}
 use Rattle.mc_account.specs.Orders.{Order, TakenRequest, commands_from, commands_to, note, note_in}
 use Rattle.mc_account.specs.Holds.{ProxyHolds, changed, grown}
 use Rattle.mc_account.proofs.HandingLemmas.{handed_at, received_up}
@@ -346,7 +346,7 @@ talks_pulled ring clients texts outs went came place piece now old below is h =
       since = holds.since;
       put = holds.put;
       came = ap (λ (bytes : List ℕ). bytes ++ piece) holds.came
-          ∙ append_assoc (told (commands_to place (drop (h.lanes place).since h.order)) (h.lanes place).replies) (link_at old.links place).unread piece;
+          ∙ append_assoc (replies_text (commands_to place (drop (h.lanes place).since h.order)) (h.lanes place).replies) (link_at old.links place).unread piece;
       can = holds.can;
       waiting = holds.waiting;
       outcomes = holds.outcomes;

@@ -11,7 +11,7 @@ ghost use Rattle.mc_cache.specs.Showing.{is_low, marks_by, item_shown};
 ghost use Rattle.mc_cache.specs.Step.{step_of, touched, meta_get_none, meta_get_step};
 ghost use Rattle.mc_cache.specs.Memory.{may_refuse};
 ghost use Rattle.mc_cache.specs.Refusals.{is_refusal};
-ghost use Rattle.mc_cache.specs.Admissions.{IsTold, found_body, body_of};
+ghost use Rattle.mc_cache.specs.Admissions.{IsMetaReply, found_body, body_of};
 
 use super::Cache;
 use super::settling::ItemMeta;
@@ -101,7 +101,7 @@ impl<S: Store + Drop> Cache<S> {
 
     /// Turns the reply to an update into the reply to a meta command. What was stored is first.
     pub(super) fn tell(&self, reply: Reply<()>, show: &Show, moment: u64) -> Reply<()>
-        ensures told { IsTold show.now moment self.now reply result }
+        ensures told { IsMetaReply show.now moment self.now reply result }
         ensures refusal { is_refusal result ≡ is_refusal reply }
     {
         match reply {

@@ -12,7 +12,7 @@ use Rattle.mc_link.specs.declared.turns.Tag.{Tag}
 use Rattle.mc_cache.specs.CacheState.{CacheState}
 use Rattle.mc_server.specs.ServerState.{connection_at, output_of}
 use Rattle.mc_server.specs.Turns.{waiting_of}
-use Rattle.mc_account.specs.Lanes.{CanHave, Lane, LaneHolds, as_waiting, sent_on, told}
+use Rattle.mc_account.specs.Lanes.{CanHave, Lane, LaneHolds, as_waiting, replies_text, sent_on}
 use Rattle.mc_account.specs.Orders.{Order, Tagged}
 use Rattle.mc_history.specs.Made.{Made, commands_on, made_on, read_as, replies_on}
 use Rattle.mc_history.proofs.GenerationLemmas.{carried}
@@ -32,12 +32,12 @@ some_at (x ∷ xs) zero inside = (x, refl)
 some_at (x ∷ xs) (suc i) inside = some_at xs i (omega (arith, inside))
 
 -- if replies to all commands have arrived and none can be taken, no command is pending
-waiting_none : (commands : List Tagged) (later : List (AReply (List ℕ))) (link : LinkState) → link.waiting ≡ as_waiting commands → link.unread ≡ told commands later
+waiting_none : (commands : List Tagged) (later : List (AReply (List ℕ))) (link : LinkState) → link.waiting ≡ as_waiting commands → link.unread ≡ replies_text commands later
     → CanHave commands later → length commands ≡ length later → ((tag : Tag) (reply : AReply (List ℕ)) (after : LinkState) → Takes link tag reply after → ⊥) → link.waiting ≡ []
 waiting_none [] later link waits unread can sizes never = waits
 waiting_none (c ∷ cs) [] link waits unread can sizes never = absurd (omega (arith, sizes))
 waiting_none (c ∷ cs) (r ∷ rs) link waits unread can sizes never =
-    absurd (never c.1 r (record link { waiting = as_waiting cs; unread = told cs rs }) (record {
+    absurd (never c.1 r (record link { waiting = as_waiting cs; unread = replies_text cs rs }) (record {
       head = head_of c.0;
       oldest = waits;
       can = can.0;
@@ -69,7 +69,7 @@ living_none place order lane link opening site up h holds no_output no_coming un
     ]) read unread_none in
     let dropped = length-drop (length lane.replies) (sent_on place order lane) in
     let end_output : living.end.output ≡ [] = subst (λ (o : _). output_of o ≡ []) living.is_open no_coming in
-    let unread : link.unread ≡ told (drop (length lane.replies) (sent_on place order lane)) carries.front.later =
+    let unread : link.unread ≡ replies_text (drop (length lane.replies) (sent_on place order lane)) carries.front.later =
     sym (append-nil link.unread) ∙ ap (λ (bytes : List ℕ). link.unread ++ bytes) (sym end_output) ∙ carries.front.bytes_are in
     waiting_none (drop (length lane.replies) (sent_on place order lane)) carries.front.later link holds.waiting unread carries.front.can
     (omega (arith, sizes, given, both, no_others, dropped, length-append (commands_on site.connection h.made) living.others)) never

@@ -18,7 +18,7 @@ use Rattle.mc_proxy.specs.Sending.{handed}
 use Rattle.mc_proxy.specs.SessionState.{SessionState, link_at, with_link}
 use Rattle.mc_proxy.specs.ProxyState.{ProxyState, output_of as output_at, sent_by, session_at}
 use Rattle.mc_proxy.specs.Sending.{at_once}
-use Rattle.mc_account.specs.Lanes.{Lane, LaneHolds, LinkHolds, told, fresh_lane, sent_on}
+use Rattle.mc_account.specs.Lanes.{Lane, LaneHolds, LinkHolds, replies_text, fresh_lane, sent_on}
 use Rattle.mc_account.specs.Orders.{Order, TakenRequest, commands_to, note, note_all, note_in}
 use Rattle.mc_account.specs.Holds.{ProxyHolds, SessionHolds, SessionHoldsAt, changed, grown}
 use Rattle.mc_account.proofs.HandingLemmas.{handed_at, received_down}
@@ -187,7 +187,7 @@ pool_reaches_proxy opening texts sent order lanes place count old new e h =
     let own : LaneHolds place order lane after = record {
       since = holds.since;
       put = holds.put;
-      came = ap (λ (bytes : List ℕ). bytes ++ piece) holds.came ∙ append_assoc (told (commands_to place (drop (lanes place).since order)) (lanes place).replies) (link_at old.proxy.links place).unread piece;
+      came = ap (λ (bytes : List ℕ). bytes ++ piece) holds.came ∙ append_assoc (replies_text (commands_to place (drop (lanes place).since order)) (lanes place).replies) (link_at old.proxy.links place).unread piece;
       can = holds.can;
       waiting = holds.waiting;
       outcomes = holds.outcomes;

@@ -20,7 +20,7 @@ use Rattle.mc_server.specs.ServerState.{ConnectionState, ServerState, connection
 use Rattle.mc_server.specs.Turns.{waiting_of}
 use Rattle.mc_server.proofs.HoldsLemmas.{stood}
 use Rattle.mc_proxy.specs.SessionState.{link_at}
-use Rattle.mc_account.specs.Lanes.{Lane, LaneHolds, LinkHolds, as_waiting, sent_on, told}
+use Rattle.mc_account.specs.Lanes.{Lane, LaneHolds, LinkHolds, as_waiting, replies_text, sent_on}
 use Rattle.mc_account.specs.Orders.{Order, Tagged}
 use Rattle.mc_account.proofs.OrderLemmas.{passes_parts}
 use Rattle.mc_history.specs.Generations.{is_good}
@@ -91,7 +91,7 @@ good_later (suc count) (c ∷ cs) good = good_later count cs (and_parts (is_good
 
 -- if a reply can be taken, one was given that was not taken
 some_later : (commands : List Tagged) (later : List (AReply (List ℕ))) (link after : LinkState) (tag : Tag) (reply : AReply (List ℕ)) (past : List ℕ) → Takes link tag reply after
-    → list_all is_good commands ≡ true → link.waiting ≡ as_waiting commands → link.unread ++ past ≡ told commands later → 1 ≤ length later
+    → list_all is_good commands ≡ true → link.waiting ≡ as_waiting commands → link.unread ++ past ≡ replies_text commands later → 1 ≤ length later
 some_later commands (r ∷ rs) link after tag reply past takes good waits is = omega arith
 some_later [] [] link after tag reply past takes good waits is =
     let clash : [] ≡ (takes.head, tag) ∷ after.waiting = sym waits ∙ takes.oldest in absurd cc

@@ -1,6 +1,6 @@
 use Rattle.mc_request.specs.Parts.{key_in, update_seen}
 use Rattle.mc_cache.specs.Settling.{settled}
-use Rattle.mc_cache.proofs.ToldLemmas.{told_outcome, told_under}
+use Rattle.mc_cache.proofs.MetaReplyLemmas.{told_outcome, told_under}
 use Rattle.mc_cache.proofs.caches.Cache.meta_update.Goals as goal
 
 pub returns-clause-step : goal.returns-clause-step

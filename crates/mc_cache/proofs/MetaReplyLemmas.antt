@@ -20,10 +20,10 @@ use Rattle.mc_reply.specs.declared.replies.Reply.{Reply}
 use Rattle.mc_reply.specs.declared.replies.Reply.TheVariants.{Stored, NotStored, Exists, NotFound, Deleted, Touched, Flushed, Number, Miss, Hit, Meta, Fault}
 use Rattle.mc_store.specs.Items.{Items, body_at, front_body}
 use Rattle.mc_cache.specs.CacheState.{CacheState, value_at, front_value}
-use Rattle.mc_cache.specs.Showing.{told, item_shown}
-use Rattle.mc_cache.specs.Step.{StepResult, Content, admission, numbered, with_item, stored_by, stored, compared, unmet, unstored, content_by, store_by, touch_step, delete_by, delete_step, count_number, count_by, count_none, count_step, update_step, held_under, outcome_told}
+use Rattle.mc_cache.specs.Showing.{meta_reply_of, item_shown}
+use Rattle.mc_cache.specs.Step.{StepResult, Content, admission, numbered, with_item, stored_by, stored, compared, unmet, unstored, content_by, store_by, touch_step, delete_by, delete_step, count_number, count_by, count_none, count_step, update_step, held_under, meta_result}
 use Rattle.mc_cache.specs.Refusals.{value_under}
-use Rattle.mc_cache.specs.Admissions.{IsTold}
+use Rattle.mc_cache.specs.Admissions.{IsMetaReply}
 use Rattle.mc_cache.proofs.StoredLemmas.{own_key}
 
 -- whether a reply says that an item was stored
@@ -151,14 +151,14 @@ value_of_held None s is = ap (λ (held : Option Body). unwrap_or (option_map (λ
 
 -- the meta reply by an outcome that is known
 told_is : (key : Option (List ℕ)) (show : Show) (moment : ℕ) (o : StepResult) (after : CacheState) (reply answer : Reply (List ℕ)) → o ≡ (after, reply)
-    → told show moment Plain (held_under key after) reply ≡ answer → outcome_told show moment Plain key o ≡ (after, answer)
-told_is key show moment o after reply answer is says = ap (outcome_told show moment Plain key) is ∙ ap (λ (r : Reply (List ℕ)). (after, r)) says
+    → meta_reply_of show moment Plain (held_under key after) reply ≡ answer → meta_result show moment Plain key o ≡ (after, answer)
+told_is key show moment o after reply answer is says = ap (meta_result show moment Plain key) is ∙ ap (λ (r : Reply (List ℕ)). (after, r)) says
 
 -- an update whose reply becomes a meta reply: the outcome of the meta command, and that either value
 -- fills its reply
 pub told_outcome : (s : CacheState) (update : Update (List ℕ) (List ℕ)) (moment : ℕ) (refused : Bool) (after : CacheState) (show : Show) (reply result : Reply (Unit {0}))
-    → ((value : List ℕ) → update_step s update moment refused ≡ (after, filled reply value)) → IsTold show moment after reply result
-    → outcome_told show moment Plain (key_in update) (update_step s update moment refused) ≡ (after, filled result (front_value after.items))
+    → ((value : List ℕ) → update_step s update moment refused ≡ (after, filled reply value)) → IsMetaReply show moment after reply result
+    → meta_result show moment Plain (key_in update) (update_step s update moment refused) ≡ (after, filled result (front_value after.items))
 told_outcome s update moment refused after show Stored result is says =
     let first : held_under (key_in update) after ≡ front_body after.items = first_of s update moment refused after Stored (is []) refl in
     told_is (key_in update) show moment _ after Stored _ (is []) (ap (item_shown show moment Plain) first ∙ sym says)
@@ -183,7 +183,7 @@ same_by o after reply is a b = ap (λ (p : StepResult). p.1) (sym (is a) ∙ is 
 
 -- the value under the key fills the meta reply as that of the first item does
 pub told_same : (s : CacheState) (update : Update (List ℕ) (List ℕ)) (moment : ℕ) (refused : Bool) (after : CacheState) (show : Show) (reply result : Reply (Unit {0}))
-    → ((value : List ℕ) → update_step s update moment refused ≡ (after, filled reply value)) → IsTold show moment after reply result
+    → ((value : List ℕ) → update_step s update moment refused ≡ (after, filled reply value)) → IsMetaReply show moment after reply result
     → filled result (front_value after.items) ≡ filled result (value_under (key_in update) after)
 told_same s update moment refused after show Stored result is says =
     ap (filled result) (sym (value_of_held (key_in update) after (first_of s update moment refused after Stored (is []) refl)))
@@ -202,8 +202,8 @@ told_same s update moment refused after show (Fault fault) result is says = rw s
 
 -- both, in one
 pub told_under : (s : CacheState) (update : Update (List ℕ) (List ℕ)) (moment : ℕ) (refused : Bool) (after : CacheState) (show : Show) (reply result : Reply (Unit {0}))
-    → ((value : List ℕ) → update_step s update moment refused ≡ (after, filled reply value)) → IsTold show moment after reply result
-    → outcome_told show moment Plain (key_in update) (update_step s update moment refused) ≡ (after, filled result (value_under (key_in update) after))
+    → ((value : List ℕ) → update_step s update moment refused ≡ (after, filled reply value)) → IsMetaReply show moment after reply result
+    → meta_result show moment Plain (key_in update) (update_step s update moment refused) ≡ (after, filled result (value_under (key_in update) after))
 told_under s update moment refused after show reply result is says =
     told_outcome s update moment refused after show reply result is says
     ∙ ap (λ (r : Reply (List ℕ)). (after, r)) (told_same s update moment refused after show reply result is says)
