@@ -8,7 +8,7 @@ use Rattle.mc_route.specs.Routes.{route_of_taken}
 use Rattle.mc_route.specs.declared.outcomes.Outcome.{Outcome}
 use Rattle.mc_route.specs.declared.routes.Routed.{Routed}
 use Rattle.mc_link.specs.declared.turns.Tag.{Tag}
-use Rattle.mc_proxy.specs.Emits.{is_told}
+use Rattle.mc_proxy.specs.Emits.{is_noted}
 use Rattle.mc_proxy.specs.SessionNoting.{set_outcome}
 use Rattle.mc_proxy.specs.Sending.{tag_of}
 use Rattle.mc_account.specs.Orders.{TakenRequest, Order, Tagged, IsSized, commands_from, commands_in, commands_to, note, note_in, outcomes_from, outcomes_in, outcomes_to, owns}
@@ -43,15 +43,15 @@ renoted_absent tag outcome (c ∷ cs) (x ∷ xs) none h =
     ]) none
 
 -- known outcomes stay known
-pub renoted_told : (tag : Tag) (outcome : Outcome) (cs : List Tagged) (xs : List Outcome) → is_told outcome ≡ true → list_all is_told xs ≡ true
-    → list_all is_told (renoted tag outcome cs xs) ≡ true
+pub renoted_told : (tag : Tag) (outcome : Outcome) (cs : List Tagged) (xs : List Outcome) → is_noted outcome ≡ true → list_all is_noted xs ≡ true
+    → list_all is_noted (renoted tag outcome cs xs) ≡ true
 renoted_told tag outcome [] xs known h = refl
 renoted_told tag outcome (c ∷ cs) [] known h = refl
 renoted_told tag outcome (c ∷ cs) (x ∷ xs) known h =
-    let parts = and_parts (is_told x) (list_all is_told xs) h in
+    let parts = and_parts (is_noted x) (list_all is_noted xs) h in
     let again = renoted_told tag outcome cs xs known parts.1 in
-    and_from (is_told (if same_tag c.1 tag then outcome else x)) (list_all is_told (renoted tag outcome cs xs))
-    (elim (same_tag c.1 tag) as (λ v. is_told (if v then outcome else x) ≡ true) [ true ↦ known | false ↦ parts.0 ]) again
+    and_from (is_noted (if same_tag c.1 tag then outcome else x)) (list_all is_noted (renoted tag outcome cs xs))
+    (elim (same_tag c.1 tag) as (λ v. is_noted (if v then outcome else x) ≡ true) [ true ↦ known | false ↦ parts.0 ]) again
 
 -- if the command is among them once, one outcome changes
 pub renoted_at : (tag : Tag) (outcome : Outcome) (front back : List Tagged) (c : Tagged) (xs ys : List Outcome) (x : Outcome)

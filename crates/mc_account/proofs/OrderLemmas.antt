@@ -12,9 +12,9 @@ use Rattle.mc_route.specs.declared.outcomes.Outcome.{Outcome}
 use Rattle.mc_route.specs.declared.routes.Routed.{Routed}
 use Rattle.mc_route.specs.declared.losses.Losses.{Losses}
 use Rattle.mc_link.specs.declared.turns.Tag.{Tag}
-use Rattle.mc_proxy.specs.Emits.{answer_by, is_told}
+use Rattle.mc_proxy.specs.Emits.{answer_by, is_noted}
 use Rattle.mc_proxy.specs.SessionNoting.{set_outcome}
-use Rattle.mc_account.specs.Orders.{TakenRequest, Order, Tagged, AreInOrder, IsSized, answers_of, commands_from, commands_in, commands_to, entries_of, note, note_in, numbers_from, outcomes_from, outcomes_in, outcomes_to, owns, IsToldAs}
+use Rattle.mc_account.specs.Orders.{TakenRequest, Order, Tagged, AreInOrder, IsSized, answers_of, commands_from, commands_in, commands_to, entries_of, note, note_in, numbers_from, outcomes_from, outcomes_in, outcomes_to, owns, HasChoice}
 use Rattle.mc_account.proofs.OpenSessions.{own_number, other_number}
 
 -- a test that the elements of two lists pass, the joined list passes
@@ -62,11 +62,11 @@ pub outcomes-push : (place : ℕ) (es : Order) (e : TakenRequest) → outcomes_t
 outcomes-push place es e = outcomes-append place es (e ∷ []) ∙ ap (λ (xs : List Outcome). outcomes_to place es ++ xs) (append-nil (outcomes_in place e))
 
 -- all outcomes of the commands to a place are known, if those taken before and since are
-pub told_whole : (place since : ℕ) (es : Order) → list_all is_told (outcomes_to place (take since es)) ≡ true → list_all is_told (outcomes_to place (drop since es)) ≡ true
-    → list_all is_told (outcomes_to place es) ≡ true
+pub told_whole : (place since : ℕ) (es : Order) → list_all is_noted (outcomes_to place (take since es)) ≡ true → list_all is_noted (outcomes_to place (drop since es)) ≡ true
+    → list_all is_noted (outcomes_to place es) ≡ true
 told_whole place since es before after =
-    let both = passes_joined is_told (outcomes_to place (take since es)) (outcomes_to place (drop since es)) before after in
-    ap (λ (xs : List Outcome). list_all is_told xs)
+    let both = passes_joined is_noted (outcomes_to place (take since es)) (outcomes_to place (drop since es)) before after in
+    ap (λ (xs : List Outcome). list_all is_noted xs)
     (ap (λ (fs : Order). outcomes_to place fs) (sym (take-append-drop since es)) ∙ outcomes-append place (take since es) (drop since es)) ∙ both
 
 -- the answers
@@ -153,10 +153,10 @@ sized-note tag outcome (e ∷ es) h =
     All-cons IsSized (note_in tag outcome e) (note tag outcome es) (sized-note_in tag outcome e (All-head IsSized e es h)) (sized-note tag outcome es (All-tail IsSized e es h))
 
 -- the choice for lost commands stays if an outcome is noted
-pub chosen-note : (losses : Losses) (tag : Tag) (outcome : Outcome) (es : Order) → All (IsToldAs losses) es → All (IsToldAs losses) (note tag outcome es)
-chosen-note losses tag outcome [] h = All-nil (IsToldAs losses)
+pub chosen-note : (losses : Losses) (tag : Tag) (outcome : Outcome) (es : Order) → All (HasChoice losses) es → All (HasChoice losses) (note tag outcome es)
+chosen-note losses tag outcome [] h = All-nil (HasChoice losses)
 chosen-note losses tag outcome (e ∷ es) h =
-    All-cons (IsToldAs losses) (note_in tag outcome e) (note tag outcome es) (All-head (IsToldAs losses) e es h) (chosen-note losses tag outcome es (All-tail (IsToldAs losses) e es h))
+    All-cons (HasChoice losses) (note_in tag outcome e) (note tag outcome es) (All-head (HasChoice losses) e es h) (chosen-note losses tag outcome es (All-tail (HasChoice losses) e es h))
 
 -- each command to a place has its outcome
 pub lengths_from : (place session request at : ℕ) (commands : List Routed) (xs : List Outcome) → length xs ≡ length commands

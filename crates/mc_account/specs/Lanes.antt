@@ -8,7 +8,7 @@ use Rattle.mc_reply.specs.declared.replies.Reply.{Reply as AReply}
 use Rattle.mc_route.specs.declared.outcomes.Outcome.TheVariants.{Awaited, Reply}
 use Rattle.mc_codec.specs.Spellings.{spelling_of_atom}
 use Rattle.mc_link.specs.LinkState.{LinkState, Waiting, down_link}
-use Rattle.mc_proxy.specs.Emits.{is_told}
+use Rattle.mc_proxy.specs.Emits.{is_noted}
 use Rattle.mc_account.specs.Orders.{Order, Tagged, commands_to, outcomes_to}
 
 -- since a link came up: how many requests had been taken then, the replies that were taken, the bytes that were consumed for its
@@ -58,12 +58,12 @@ pub record LaneHolds (place : ℕ) (order : Order) (lane : Lane) (link : LinkSta
   pub can : CanHave (sent_on place order lane) lane.replies
   pub waiting : link.waiting ≡ as_waiting (drop (length lane.replies) (sent_on place order lane))
   pub outcomes : outcomes_to place (drop lane.since order) ≡ map (λ reply. Reply reply) lane.replies ++ map (λ _. Awaited) link.waiting
-  pub before : list_all is_told (outcomes_to place (take lane.since order)) ≡ true
+  pub before : list_all is_noted (outcomes_to place (take lane.since order)) ≡ true
 
 -- no command to a link that is down is pending
 pub record IsDown (place : ℕ) (order : Order) (link : LinkState) : Type 0 where
   pub nothing : link ≡ down_link link.generation
-  pub outcomes : list_all is_told (outcomes_to place order) ≡ true
+  pub outcomes : list_all is_noted (outcomes_to place order) ≡ true
 
 -- the state of the link at a place
 abbrev pub LinkHolds : ℕ → Order → Lane → LinkState → Type 0

@@ -10,7 +10,7 @@ use Rattle.mc_route.specs.declared.losses.Losses.{Losses}
 use Rattle.mc_route.specs.declared.outcomes.Outcome.{Outcome}
 use Rattle.mc_route.specs.declared.routes.Routed.{Routed}
 use Rattle.mc_link.specs.declared.turns.Tag.{Tag}
-use Rattle.mc_proxy.specs.Emits.{answer_by, is_told}
+use Rattle.mc_proxy.specs.Emits.{answer_by, is_noted}
 use Rattle.mc_proxy.specs.SessionNoting.{set_outcome}
 use Rattle.mc_proxy.specs.Sending.{tag_of}
 use Rattle.mc_proxy.specs.SessionState.{Unanswered}
@@ -84,12 +84,12 @@ abbrev pub IsSized : TakenRequest → Type 0
 IsSized e = length e.outcomes ≡ length (route_of_taken e.ring e.what)
 
 -- an entry's lost commands are answered by this choice
-abbrev pub IsToldAs : Losses → TakenRequest → Type 0
-IsToldAs losses e = e.losses ≡ losses
+abbrev pub HasChoice : Losses → TakenRequest → Type 0
+HasChoice losses e = e.losses ≡ losses
 
 -- whether the outcome of each command of an entry is known
 abbrev pub is_complete : TakenRequest → Bool
-is_complete e = list_all is_told e.outcomes
+is_complete e = list_all is_noted e.outcomes
 
 -- whether a tag is of a command of an entry
 abbrev pub owns : Tag → TakenRequest → Bool

@@ -37,7 +37,7 @@ use Rattle.mc_world.specs.declared.logs.Logged.TheVariants.{Happened}
 use Rattle.mc_history.specs.declared.entries.Entry.{Entry}
 use Rattle.mc_history.specs.Histories.{IsLegal, tag_in}
 use Rattle.mc_history.specs.Named.{tags_of}
-use Rattle.mc_pool_laws.specs.Told.{IsToldBy}
+use Rattle.mc_pool_laws.specs.Outcomes.{HasOutcomeBy}
 use Rattle.mc_pool_laws.proofs.MissExample.{nothing_read, owned}
 use Rattle.mc_pool_laws.proofs.NeedLemmas.{none_there, one_here, one_server, outcome_in_request, outs_of}
 use Rattle.mc_pool_laws.proofs.OrderExample.{tag_is}
@@ -176,7 +176,7 @@ pub record IsKnown (histories : ℕ → List Entry) (log : Log) (k : ℕ) (x : T
   pub outcome : Outcome
   pub routed : route_of_taken x.ring x.what ≡ to_place place atom ∷ []
   pub became : x.outcomes ≡ outcome ∷ []
-  pub told : IsToldBy histories log (tag_of 0 k 0) (to_place place atom) outcome
+  pub told : HasOutcomeBy histories log (tag_of 0 k 0) (to_place place atom) outcome
 
 -- the entry of its command gives the outcome, if its reply was taken
 pub replied_as : (histories : ℕ → List Entry) (log : Log) (k : ℕ) (x : TakenRequest) (place : ℕ) (atom : Atom (List ℕ)) (reply : AReply (List ℕ)) (n : ℕ) (e : Entry)
@@ -263,7 +263,7 @@ nothing_left (suc n) (suc m) = refl
 -- the outcome of a command is shown
 known_by : (ring : RingState) (opening : CacheState) (order : Order) (text : List ℕ) (first second : List Entry) (log : Log) → IsSmall ring opening order text first second log
     → (tag : Tag) (place : ℕ) (atom : Atom (List ℕ)) (outcome : Outcome) → command_at order tag ≡ Some (to_place place atom) → outcome_at order tag ≡ Some outcome
-    → IsToldBy (two_histories first second) log tag (to_place place atom) outcome
+    → HasOutcomeBy (two_histories first second) log tag (to_place place atom) outcome
 known_by ring opening order text first second log h tag place atom outcome at became =
     let asked = in_request (asked_at order tag.session tag.request) tag.atom (to_place place atom) at in
     let own = asked_own order h.own tag.session tag.request asked.0 asked.1 in
@@ -274,9 +274,9 @@ known_by ring opening order text first second log h tag place atom outcome at be
     let same : told.0 ≡ asked.0 = same_Some told.0 asked.0 (sym told.1 ∙ asked.1) in
     let is = one_here known.outcome tag.atom outcome
     (ap (λ (os : List Outcome). slice_get os tag.atom) (sym (ap (λ (x : TakenRequest). x.outcomes) same ∙ known.became)) ∙ told.2) in
-    subst (λ (q : Outcome). IsToldBy (two_histories first second) log tag (to_place place atom) q) (sym is.1)
-    (subst (λ (c : Routed). IsToldBy (two_histories first second) log tag c known.outcome) (sym command.1)
-    (subst (λ (t : Tag). IsToldBy (two_histories first second) log t (to_place known.place known.atom) known.outcome) (tag_is tag tag.request own.0 refl command.0) known.told))
+    subst (λ (q : Outcome). HasOutcomeBy (two_histories first second) log tag (to_place place atom) q) (sym is.1)
+    (subst (λ (c : Routed). HasOutcomeBy (two_histories first second) log tag c known.outcome) (sym command.1)
+    (subst (λ (t : Tag). HasOutcomeBy (two_histories first second) log t (to_place known.place known.atom) known.outcome) (tag_is tag tag.request own.0 refl command.0) known.told))
 
 -- the place and index of an entry
 sites_by : (ring : RingState) (opening : CacheState) (order : Order) (text : List ℕ) (first second : List Entry) (log : Log) → (h : IsSmall ring opening order text first second log)

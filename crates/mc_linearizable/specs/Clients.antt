@@ -25,7 +25,7 @@ use Rattle.mc_registers.specs.Recache.{has_won, is_win}
 use Rattle.mc_registers.specs.Registers.{Done, IsRun}
 use Rattle.mc_registers.specs.Told.{Tells}
 use Rattle.mc_world.specs.Logs.{Log, taken_before}
-use Rattle.mc_pool_laws.specs.Told.{WasAnswered}
+use Rattle.mc_pool_laws.specs.Outcomes.{WasAnswered}
 use Rattle.mc_linearizable.specs.Linearizable.{ComesFirst, Executed, IsEarlier}
 
 -- A command's request was answered, and the proxy took this reply to the command. With `noreply`, or if another key of the `get` was lost, the

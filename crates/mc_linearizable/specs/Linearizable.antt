@@ -31,7 +31,7 @@ use Rattle.mc_registers.specs.Told.{TellEach, on_key}
 use Rattle.mc_world.specs.Accounts.{Accounts, WasNeverSentOrLost, answers_by}
 use Rattle.mc_world.specs.Logs.{Log, before, in_life, moments_of, number_of, puts, takes, turns_of}
 use Rattle.mc_world.specs.Worlds.{WorldState, cache_of, history_of, put_out_of, text_of}
-use Rattle.mc_pool_laws.specs.Told.{IsToldBy, WasAnswered}
+use Rattle.mc_pool_laws.specs.Outcomes.{HasOutcomeBy, WasAnswered}
 
 -- a command on a key that was executed: its entry is the one of this number in the history of this place
 pub record Executed (order : Order) (histories : ℕ → List Entry) (key : List ℕ) : Type 0 where
@@ -92,7 +92,7 @@ pub record IsLinearizablePool (losses : Losses) (counter : ℕ) (order : Order) 
   pub after : (client request : ℕ) → request < number_of (puts client) log → request < number_of (takes client) (before (puts client) request log)
   -- the outcome of each of these commands is the reply that its server gave, or that it was lost, as the log shows
   pub told : (tag : Tag) (place : ℕ) (atom : Atom (List ℕ)) → command_at order tag ≡ Some (to_place place atom) → WasAnswered tag log
-      → (outcome : Outcome) × (outcome_at order tag ≡ Some outcome) × IsToldBy histories log tag (to_place place atom) outcome
+      → (outcome : Outcome) × (outcome_at order tag ≡ Some outcome) × HasOutcomeBy histories log tag (to_place place atom) outcome
   -- a history has one entry for each turn of its server, at its moment
   pub moments : (place : ℕ) → map (λ (e : Entry). e.moment) (histories place) ≡ moments_of place log
   -- each key is linearizable

@@ -43,7 +43,7 @@ use Rattle.mc_world.specs.declared.events.Event.TheVariants.{Emit, LinkBack, Lin
 use Rattle.mc_world.specs.declared.logs.Logged.{Logged}
 use Rattle.mc_world.specs.declared.logs.Logged.TheVariants.{Happened}
 use Rattle.mc_pool_laws.specs.Sent.{IsReplayed}
-use Rattle.mc_pool_laws.specs.Told.{IsUnaccounted}
+use Rattle.mc_pool_laws.specs.Outcomes.{IsUnaccounted}
 use Rattle.mc_pool_laws.specs.Without.{AccountsBut, After, Allows, Answered, Asked, Clause, Legal, Lost, Moments, Once, Placed, Put, Replied, Rings, Sized, Turns}
 use Rattle.mc_pool_laws.proofs.SentLemmas.{in_request}
 

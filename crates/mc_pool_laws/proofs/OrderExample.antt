@@ -27,7 +27,7 @@ use Rattle.mc_history.specs.declared.entries.Entry.{Entry}
 use Rattle.mc_history.specs.Histories.{HasReply, IsLegal, tag_in}
 use Rattle.mc_world.specs.Accounts.{NotAnswered, WasTaken}
 use Rattle.mc_world.specs.Logs.{IsRingAfter, Log, before, in_life, loses, number_of, puts, serves, takes}
-use Rattle.mc_pool_laws.specs.Told.{LinkHeld, WasAnswered}
+use Rattle.mc_pool_laws.specs.Outcomes.{LinkHeld, WasAnswered}
 use Rattle.mc_pool_laws.specs.Without.{AccountsBut, Allows, Ordered}
 use Rattle.mc_pool_laws.proofs.SentLemmas.{in_request}
 use Rattle.mc_pool_laws.proofs.NeedLemmas.{a_cache, asked_by, first_only, first_there, flush, flush_asked, flushed, follows_lost, is_lost, lives_of_first, loses_one, none_there, one_here, one_server, outcome_in_request, outs_of, own_by, puts_one, returns_one, serves_one, takes_one}

@@ -23,7 +23,7 @@ ghost use Rattle.mc_history.specs.declared.entries.Entry.{Entry};
 ghost use Rattle.mc_world.specs.Accounts.{Account, WasNeverSentOrLost};
 ghost use Rattle.mc_world.specs.Logs.{Log};
 ghost use Rattle.mc_pool_laws.specs.Choices.{HaveReplies, ShowReplies};
-ghost use Rattle.mc_pool_laws.specs.Told.{IsAnswerTo};
+ghost use Rattle.mc_pool_laws.specs.Outcomes.{IsAnswerTo};
 
 /// A value that is shown was a server's reply, as that server's history has it. This holds of each item of a `get`, whatever was lost; with
 /// `Told` it shows no item if a command was lost. With `Missed` an `mg` shows its server's reply, or, if it was lost, that there is no item.

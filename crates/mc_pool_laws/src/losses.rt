@@ -15,7 +15,7 @@ ghost use Rattle.mc_world.specs.Accounts.{Account, Accounts, NotAnswered, WasNev
 ghost use Rattle.mc_world.specs.Logs.{Log, before, loses, number_of, puts, serves};
 ghost use Rattle.mc_pool_laws.specs.Followed.{FollowsProxy};
 ghost use Rattle.mc_pool_laws.specs.Sent.{IsSent};
-ghost use Rattle.mc_pool_laws.specs.Told.{HasEntry, HasOneEntry, LinkHeld, WasAnswered};
+ghost use Rattle.mc_pool_laws.specs.Outcomes.{HasEntry, HasOneEntry, LinkHeld, WasAnswered};
 
 /// Each command of an answered request was executed by its server, or was lost. If it was lost, either its link was down when its request was
 /// taken, and it was never executed; or its link was lost between then and the answer.

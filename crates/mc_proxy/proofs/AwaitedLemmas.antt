@@ -4,11 +4,11 @@ use Rattle.std.specs.List.{list_all}
 use Rattle.std.proofs.lemmas.Bool.Decides.{nat_tests}
 use Rattle.mc_route.specs.declared.outcomes.Outcome.{Outcome}
 use Rattle.mc_route.specs.declared.outcomes.Outcome.TheVariants.{Awaited, Reply, Lost}
-use Rattle.mc_proxy.specs.Emits.{is_told, count_awaited, awaited_in}
+use Rattle.mc_proxy.specs.Emits.{is_noted, count_awaited, awaited_in}
 use Rattle.mc_proxy.specs.SessionNoting.{set_outcome}
 
 -- if none is pending, the outcome of each command is known
-pub none_awaited : (outcomes : List Outcome) → (awaited_in outcomes == 0) ≡ list_all is_told outcomes
+pub none_awaited : (outcomes : List Outcome) → (awaited_in outcomes == 0) ≡ list_all is_noted outcomes
 none_awaited [] = refl
 none_awaited (Awaited ∷ outcomes) = grind (arith, nat_tests)
 none_awaited (Reply reply ∷ outcomes) = grind (arith, none_awaited outcomes)

@@ -13,14 +13,14 @@ use Rattle.mc_proxy.specs.declared.session_turns.Emit.{Emit}
 use Rattle.mc_proxy.specs.declared.session_turns.Emit.TheVariants.{Done, Idle}
 
 -- whether the outcome of a command is known
-abbrev pub is_told : Outcome → Bool
-is_told Awaited = false
-is_told (Reply reply) = true
-is_told Lost = true
+abbrev pub is_noted : Outcome → Bool
+is_noted Awaited = false
+is_noted (Reply reply) = true
+is_noted Lost = true
 
 -- how many replies are pending
 abbrev pub count_awaited : Outcome → ℕ
-count_awaited outcome = if is_told outcome then 0 else 1
+count_awaited outcome = if is_noted outcome then 0 else 1
 
 abbrev pub awaited_in : List Outcome → ℕ
 awaited_in [] = 0
@@ -33,7 +33,7 @@ answer_by losses (Faulty fault) outcomes = fault_line fault
 
 -- whether the outcome of each of its commands is known
 abbrev pub is_known : Unanswered → Bool
-is_known open_one = list_all is_told open_one.outcomes
+is_known open_one = list_all is_noted open_one.outcomes
 
 -- the answer to a request that was taken
 abbrev pub answer_of_one : Unanswered → List ℕ

@@ -25,7 +25,7 @@ use Rattle.mc_proxy.specs.SessionState.{SessionState, link_at}
 use Rattle.mc_proxy.specs.ProxyState.{ProxyState, output_of, session_at, unanswered_of}
 use Rattle.mc_proxy.specs.Turns.{waiting_of}
 use Rattle.mc_account.specs.Lanes.{CanHave, Lane, LaneHolds, as_waiting, replies_text, spelled}
-use Rattle.mc_account.specs.Orders.{IsSized, IsToldAs, Order, Tagged, TakenRequest, answers_of, commands_to, entries_of, outcomes_from, outcomes_in, outcomes_to, taken_of, unanswered_of as as_unanswered}
+use Rattle.mc_account.specs.Orders.{HasChoice, IsSized, Order, Tagged, TakenRequest, answers_of, commands_to, entries_of, outcomes_from, outcomes_in, outcomes_to, taken_of, unanswered_of as as_unanswered}
 use Rattle.mc_account.specs.Holds.{ProxyHolds, SessionHolds, SessionHoldsAt, IsUnused}
 use Rattle.mc_account.proofs.OpenSessions.{own_number}
 use Rattle.mc_account.proofs.OrderLemmas.{lengths_to, passes_parts}
@@ -244,7 +244,7 @@ completes ring opening clients texts outs went came began ended proxy good_cache
         numbered = h.holds.numbered;
         rings = h.rings;
         sized = h.holds.sized;
-        chosen = subst (λ (losses : Losses). All (IsToldAs losses) h.order) h.losses_is h.holds.chosen;
+        chosen = subst (λ (losses : Losses). All (HasChoice losses) h.order) h.losses_is h.holds.chosen;
         all_replied = replied_order h.order h.holds.sized (λ place. ap (λ (xs : List Outcome). list_all is_reply xs) (all place).of.outcomes ∙ all_replies (all place).made);
         legal = λ server. legal_made opening h.order server (all server).made (all server).of;
         commands = λ server. tags_made_of opening h.order server (all server).made (all server).of;

@@ -17,7 +17,7 @@ use Rattle.mc_server.proofs.HoldsLemmas.{ServerHolds-admitted, ServerHolds-new}
 use Rattle.mc_proxy.specs.SessionState.{SessionState, answered, fresh_session, link_at}
 use Rattle.mc_proxy.specs.ProxyState.{ProxyState, Sessions, output_of, session_in, with_fresh}
 use Rattle.mc_account.specs.Lanes.{LinkHolds, fresh_lane}
-use Rattle.mc_account.specs.Orders.{IsSized, IsToldAs, Order, Tagged, commands_to}
+use Rattle.mc_account.specs.Orders.{HasChoice, IsSized, Order, Tagged, commands_to}
 use Rattle.mc_account.specs.Holds.{ProxyHolds}
 use Rattle.mc_account.proofs.LaneLemmas.{lane_fresh}
 use Rattle.mc_account.proofs.OpenSessions.{other_number}
@@ -80,7 +80,7 @@ one_admitted losses ring clients =
 proxy_opens : (losses : Losses) (ring : RingState) (clients : ℕ) → ProxyHolds (λ _. []) (λ _. []) [] (λ _. fresh_lane 0) (opening_proxy losses ring clients)
 proxy_opens losses ring zero = record {
   sized = All-nil IsSized;
-  chosen = All-nil (IsToldAs losses);
+  chosen = All-nil (HasChoice losses);
   numbered = λ number. refl;
   sessions = λ number. record { untaken = []; rest = sym no_requests; done = []; incomplete = []; split = refl; complete = refl; unsent = []; answered = refl };
   unused = λ number above. record { not_open = refl; nothing_came = refl; nothing_taken = refl; nothing_sent = refl };

@@ -17,7 +17,7 @@ use Rattle.mc_cache.specs.CacheState.{CacheState, IsWithinBounds, opening_cache}
 use Rattle.mc_cache_laws.proofs.GoodStepLemmas.{opening_is_good}
 use Rattle.mc_server.specs.ServerState.{connection_at, output_of}
 use Rattle.mc_server.specs.Turns.{waiting_of}
-use Rattle.mc_proxy.specs.Emits.{is_told}
+use Rattle.mc_proxy.specs.Emits.{is_noted}
 use Rattle.mc_proxy.specs.SessionState.{SessionState, Unanswered, link_at}
 use Rattle.mc_proxy.specs.ProxyState.{output_of as output_at, session_at}
 use Rattle.mc_account.specs.Orders.{Order, TakenRequest, entries_of, is_complete, outcomes_to, taken_of, unanswered_of}
@@ -93,20 +93,20 @@ link_quiet ring opening c h stuck place =
     ]) refl
 
 -- replies are known outcomes; and so are all outcomes of a link on which nothing can be done
-replied_told : (replies : List (AReply (List ℕ))) → list_all is_told (map (λ reply. Reply reply) replies) ≡ true
+replied_told : (replies : List (AReply (List ℕ))) → list_all is_noted (map (λ reply. Reply reply) replies) ≡ true
 replied_told [] = refl
 replied_told (r ∷ rs) = replied_told rs
 
-told_at : (ring : RingState) (opening : CacheState) (c : CourseState) → (h : CourseHolds ring opening c) → IsStuck c.pool → (place : ℕ) → list_all is_told (outcomes_to place h.order) ≡ true
+told_at : (ring : RingState) (opening : CacheState) (c : CourseState) → (h : CourseHolds ring opening c) → IsStuck c.pool → (place : ℕ) → list_all is_noted (outcomes_to place h.order) ≡ true
 told_at ring opening c h stuck place =
-    (elim (link_at c.pool.proxy.links place).up as (λ v. (link_at c.pool.proxy.links place).up ≡ v → list_all is_told (outcomes_to place h.order) ≡ true) [
+    (elim (link_at c.pool.proxy.links place).up as (λ v. (link_at c.pool.proxy.links place).up ≡ v → list_all is_noted (outcomes_to place h.order) ≡ true) [
       | true ↦ λ up.
           let holds = (h.pool.proxy.links place).0 up in
           let waiting = (link_quiet ring opening c h stuck place).waiting in
           let since : outcomes_to place (drop (h.lanes place).since h.order) ≡ map (λ reply. Reply reply) (h.lanes place).replies =
           holds.outcomes ∙ ap (λ (ws : List Waiting). map (λ reply. Reply reply) (h.lanes place).replies ++ map (λ _. Awaited) ws) waiting
           ∙ append-nil (map (λ reply. Reply reply) (h.lanes place).replies) in
-          told_whole place (h.lanes place).since h.order holds.before (ap (λ (xs : List Outcome). list_all is_told xs) since ∙ replied_told (h.lanes place).replies)
+          told_whole place (h.lanes place).since h.order holds.before (ap (λ (xs : List Outcome). list_all is_noted xs) since ∙ replied_told (h.lanes place).replies)
       | false ↦ λ down. ((h.pool.proxy.links place).1 (λ up. let clash : false ≡ true = sym down ∙ up in absurd cc)).outcomes
     ]) refl
 

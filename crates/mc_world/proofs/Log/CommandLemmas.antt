@@ -16,7 +16,7 @@ use Rattle.mc_history.specs.Histories.{HasNone, tag_in}
 use Rattle.mc_history.specs.declared.entries.Entry.{Entry}
 use Rattle.mc_history.proofs.OutcomeLemmas.{command_note, note_back}
 use Rattle.mc_world.specs.Accounts.{NotAnswered, WasLost, WasTaken, down_when_taken, up_when_taken}
-use Rattle.mc_world.specs.LogHolds.{CommandsHold, IsTold, IsUntaken, RequestsHold}
+use Rattle.mc_world.specs.LogHolds.{CommandsHold, HasOutcome, IsUntaken, RequestsHold}
 use Rattle.mc_world.specs.Logs.{Log, is_up, loses, takes}
 use Rattle.mc_world.specs.WorldState.{SiteState, histories_of}
 use Rattle.mc_world.specs.declared.logs.Logged.{Logged}
@@ -60,7 +60,7 @@ was_lost_stays place tag log x h =
     )
 
 told_stays : (place : ℕ) (tag : Tag) (history now : List Entry) (log : Log) (x : Logged) (outcome : Outcome) → WasTaken tag log
-    → (down_when_taken place tag log → HasNone history tag → HasNone now tag) → IsTold place tag history log outcome → IsTold place tag now (log ++ x ∷ []) outcome
+    → (down_when_taken place tag log → HasNone history tag → HasNone now tag) → HasOutcome place tag history log outcome → HasOutcome place tag now (log ++ x ∷ []) outcome
 told_stays place tag history now log x Awaited taken none h = up_stays place tag log x taken h
 told_stays place tag history now log x (Reply reply) taken none h = tt
 told_stays place tag history now log x Lost taken none h = elim h [
@@ -72,7 +72,7 @@ told_stays place tag history now log x Lost taken none h = elim h [
 abbrev pub News : Order → Order → (ℕ → List Entry) → Log → Type 0
 News order order' histories log =
     (tag : Tag) (place : ℕ) (atom : Atom (List ℕ)) (outcome : Outcome) → command_at order' tag ≡ Some (to_place place atom) → outcome_at order' tag ≡ Some outcome
-    → ((command_at order tag ≡ Some (to_place place atom)) × (outcome_at order tag ≡ Some outcome)) ⊎ IsTold place tag (histories place) log outcome
+    → ((command_at order tag ≡ Some (to_place place atom)) × (outcome_at order tag ≡ Some outcome)) ⊎ HasOutcome place tag (histories place) log outcome
 
 -- commands that were never sent still have no entry
 abbrev pub KeepsNone : Log → (ℕ → List Entry) → (ℕ → List Entry) → Type 0
@@ -142,6 +142,6 @@ commands_reply opening places order log x t reply sites now requests numbered lo
     commands_go opening places order (note t (Reply reply) order) log x sites now requests lost
     (λ tag place atom outcome command known. elim (note_back t (Reply reply) order tag outcome (numbered tag.session) known) [
       | inl k ↦ inl (sym (command_note t (Reply reply) order tag) ∙ command, k)
-      | inr k ↦ inr (subst (λ (o : Outcome). IsTold place tag (histories_of now place) (log ++ x ∷ []) o) (sym k.1) tt)
+      | inr k ↦ inr (subst (λ (o : Outcome). HasOutcome place tag (histories_of now place) (log ++ x ∷ []) o) (sym k.1) tt)
     ])
     (none_still log (histories_of sites) (histories_of now) same) (λ place tag has. inl (untaken place tag has)) h

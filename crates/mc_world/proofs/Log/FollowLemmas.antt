@@ -16,7 +16,7 @@ use Rattle.mc_link.specs.LinkState.{LinkState}
 use Rattle.mc_link.specs.declared.turns.Tag.{Tag}
 use Rattle.mc_cache.specs.CacheState.{CacheState}
 use Rattle.mc_server.specs.Histories.{taken_of}
-use Rattle.mc_proxy.specs.Emits.{is_told}
+use Rattle.mc_proxy.specs.Emits.{is_noted}
 use Rattle.mc_proxy.specs.SessionState.{link_at}
 use Rattle.mc_account.specs.Lanes.{Lane, LaneHolds}
 use Rattle.mc_account.specs.Lookups.{command_at, outcome_at}
@@ -74,24 +74,24 @@ tags_made_of [] = refl
 tags_made_of (m ∷ ms) = ap (λ (ts : List Tag). m.command.1 ∷ ts) (tags_made_of ms)
 
 -- a command that was sent before a lane began, and its outcome
-record WasTold (place : ℕ) (order : Order) (c : Tagged) : Type 0 where
+record WasNoted (place : ℕ) (order : Order) (c : Tagged) : Type 0 where
   pub command : command_at order c.1 ≡ Some (to_place place c.0)
   pub outcome : Outcome
   pub known : outcome_at order c.1 ≡ Some outcome
-  pub told : is_told outcome ≡ true
+  pub told : is_noted outcome ≡ true
 
 -- the first of outcomes that are all known
 record HasFirst (outcomes : List Outcome) : Type 0 where
   pub outcome : Outcome
   pub at : slice_get outcomes 0 ≡ Some outcome
-  pub told : is_told outcome ≡ true
+  pub told : is_noted outcome ≡ true
 
-first_of : (outcomes : List Outcome) → 0 < length outcomes → list_all is_told outcomes ≡ true → HasFirst outcomes
+first_of : (outcomes : List Outcome) → 0 < length outcomes → list_all is_noted outcomes ≡ true → HasFirst outcomes
 first_of [] some all = absurd (omega (arith, some))
-first_of (o ∷ os) some all = record { outcome = o; at = refl; told = (and_parts (is_told o) (list_all is_told os) all).0 }
+first_of (o ∷ os) some all = record { outcome = o; at = refl; told = (and_parts (is_noted o) (list_all is_noted os) all).0 }
 
 first_told : (place since : ℕ) (order : Order) (c : Tagged) (cs : List Tagged) → ((number : ℕ) → AreInOrder (entries_of number order)) → All IsSized order
-    → list_all is_told (outcomes_to place (take since order)) ≡ true → commands_to place (take since order) ≡ c ∷ cs → WasTold place order c
+    → list_all is_noted (outcomes_to place (take since order)) ≡ true → commands_to place (take since order) ≡ c ∷ cs → WasNoted place order c
 first_told place since order c cs numbered sized before is =
     let sizes = lengths_to place (take since order) (All-take IsSized since order sized) in
     let some : length (commands_to place (take since order)) ≡ suc (length cs) = ap (λ (xs : List Tagged). length xs) is in
@@ -109,7 +109,7 @@ first_told place since order c cs numbered sized before is =
     record { command = found.command; outcome = first.outcome; known = found.outcome; told = first.told }
 
 -- a known outcome that is no loss is a reply
-pub reply_known : (outcome : Outcome) → is_told outcome ≡ true → (outcome ≡ Lost → ⊥) → (reply : AReply (List ℕ)) × (outcome ≡ Reply reply)
+pub reply_known : (outcome : Outcome) → is_noted outcome ≡ true → (outcome ≡ Lost → ⊥) → (reply : AReply (List ℕ)) × (outcome ≡ Reply reply)
 reply_known Awaited told never = absurd (false≢true told)
 reply_known Lost told never = absurd (never refl)
 reply_known (Reply reply) told never = (reply, refl)

@@ -5,7 +5,7 @@ use Rattle.std.proofs.lemmas.List.Elements.{All-cons, All-head, All-nil, All-tai
 use Rattle.mc_route.specs.declared.losses.Losses.{Losses}
 use Rattle.mc_proxy.specs.Emits.{answer_by}
 use Rattle.mc_proxy.specs.ProxyState.{ProxyState, sent_by, session_at}
-use Rattle.mc_account.specs.Orders.{IsToldAs, Order, TakenRequest, answers_of, entries_of}
+use Rattle.mc_account.specs.Orders.{HasChoice, Order, TakenRequest, answers_of, entries_of}
 use Rattle.mc_cache.specs.CacheState.{CacheState}
 use Rattle.mc_world.specs.declared.events.Event.{Event}
 use Rattle.mc_world.specs.declared.events.Event.TheVariants.{ClientBytes, ClientGone, ClientTakes, Emit, LinkBack, LinkLost, ProxyTurn, ReplyTurn, ServerSeesEnd, ServerTurn, ToProxy, ToServer}
@@ -105,31 +105,31 @@ restarted_losses place cache (Ok value) old new restarted refused = restart_keep
 restarted_losses place cache (Err e) old new restarted refused = kept old new refused
 
 -- the first requests of a client
-own_chosen : (losses : Losses) (v : Bool) (e : TakenRequest) (mine : Order) → IsToldAs losses e → All (IsToldAs losses) mine → All (IsToldAs losses) (if v then e ∷ mine else mine)
-own_chosen losses true e mine own all = All-cons (IsToldAs losses) e mine own all
+own_chosen : (losses : Losses) (v : Bool) (e : TakenRequest) (mine : Order) → HasChoice losses e → All (HasChoice losses) mine → All (HasChoice losses) (if v then e ∷ mine else mine)
+own_chosen losses true e mine own all = All-cons (HasChoice losses) e mine own all
 own_chosen losses false e mine own all = all
 
-mine_chosen : (losses : Losses) (client : ℕ) (order : Order) → All (IsToldAs losses) order → All (IsToldAs losses) (entries_of client order)
-mine_chosen losses client [] all = All-nil (IsToldAs losses)
+mine_chosen : (losses : Losses) (client : ℕ) (order : Order) → All (HasChoice losses) order → All (HasChoice losses) (entries_of client order)
+mine_chosen losses client [] all = All-nil (HasChoice losses)
 mine_chosen losses client (e ∷ es) all =
-    own_chosen losses (e.session == client) e (entries_of client es) (All-head (IsToldAs losses) e es all)
-    (mine_chosen losses client es (All-tail (IsToldAs losses) e es all))
+    own_chosen losses (e.session == client) e (entries_of client es) (All-head (HasChoice losses) e es all)
+    (mine_chosen losses client es (All-tail (HasChoice losses) e es all))
 
-first_chosen : (losses : Losses) (n : ℕ) (es : Order) → All (IsToldAs losses) es → All (IsToldAs losses) (take n es)
-first_chosen losses zero [] all = All-nil (IsToldAs losses)
-first_chosen losses zero (e ∷ es) all = All-nil (IsToldAs losses)
-first_chosen losses (suc n) [] all = All-nil (IsToldAs losses)
+first_chosen : (losses : Losses) (n : ℕ) (es : Order) → All (HasChoice losses) es → All (HasChoice losses) (take n es)
+first_chosen losses zero [] all = All-nil (HasChoice losses)
+first_chosen losses zero (e ∷ es) all = All-nil (HasChoice losses)
+first_chosen losses (suc n) [] all = All-nil (HasChoice losses)
 first_chosen losses (suc n) (e ∷ es) all =
-    All-cons (IsToldAs losses) e (take n es) (All-head (IsToldAs losses) e es all) (first_chosen losses n es (All-tail (IsToldAs losses) e es all))
+    All-cons (HasChoice losses) e (take n es) (All-head (HasChoice losses) e es all) (first_chosen losses n es (All-tail (HasChoice losses) e es all))
 
 -- their answers
-chosen_answers : (losses : Losses) (es : Order) → All (IsToldAs losses) es → answers_of es ≡ answers_by losses es
+chosen_answers : (losses : Losses) (es : Order) → All (HasChoice losses) es → answers_of es ≡ answers_by losses es
 chosen_answers losses [] all = refl
 chosen_answers losses (e ∷ es) all =
-    ap₂ (λ (one more : List ℕ). one ++ more) (ap (λ (l : Losses). answer_by l e.what e.outcomes) (All-head (IsToldAs losses) e es all))
-    (chosen_answers losses es (All-tail (IsToldAs losses) e es all))
+    ap₂ (λ (one more : List ℕ). one ++ more) (ap (λ (l : Losses). answer_by l e.what e.outcomes) (All-head (HasChoice losses) e es all))
+    (chosen_answers losses es (All-tail (HasChoice losses) e es all))
 
-pub answers_chosen : (losses : Losses) (client n : ℕ) (order : Order) → All (IsToldAs losses) order
+pub answers_chosen : (losses : Losses) (client n : ℕ) (order : Order) → All (HasChoice losses) order
     → answers_of (take n (entries_of client order)) ≡ answers_by losses (take n (entries_of client order))
 answers_chosen losses client n order all =
     chosen_answers losses (take n (entries_of client order)) (first_chosen losses n (entries_of client order) (mine_chosen losses client order all))

@@ -16,7 +16,7 @@ use Rattle.mc_account.proofs.OrderLemmas.{entries-append}
 use Rattle.mc_account.proofs.WithinLemmas.{commands_within, within-push}
 use Rattle.mc_history.specs.Histories.{HasNone}
 use Rattle.mc_history.specs.declared.entries.Entry.{Entry}
-use Rattle.mc_world.specs.LogHolds.{CommandsHold, HistoriesHold, IsTold, RequestsHold}
+use Rattle.mc_world.specs.LogHolds.{CommandsHold, HasOutcome, HistoriesHold, RequestsHold}
 use Rattle.mc_world.specs.Logs.{Log, before, is_up, number_of, serves, takes}
 use Rattle.mc_world.specs.WorldState.{SiteState, histories_of}
 use Rattle.mc_world.specs.declared.logs.Logged.{Logged}
@@ -47,11 +47,11 @@ none_yet opening places order log histories place tag requests h next k d at sam
 
 -- the log shows of a command the outcome that it has at once
 told_at_once : (place : ℕ) (tag : Tag) (history : List Entry) (log : Log) (x : Logged) (link : LinkState) → takes tag.session x ≡ true → tag.request ≡ number_of (takes tag.session) log
-    → is_up place log ≡ link.up → HasNone history tag → IsTold place tag history (log ++ x ∷ []) (outcome_by link)
+    → is_up place log ≡ link.up → HasNone history tag → HasOutcome place tag history (log ++ x ∷ []) (outcome_by link)
 told_at_once place tag history log x link own number up none =
     let was : is_up place (before (takes tag.session) tag.request (log ++ x ∷ [])) ≡ link.up =
     ap (λ (n : ℕ). is_up place (before (takes tag.session) n (log ++ x ∷ []))) number ∙ ap (λ (l : Log). is_up place l) (before-last (takes tag.session) log x own) ∙ up in
-    (elim (link.up) as (λ v. is_up place (before (takes tag.session) tag.request (log ++ x ∷ [])) ≡ v → IsTold place tag history (log ++ x ∷ []) (if v then Awaited else Lost)) [
+    (elim (link.up) as (λ v. is_up place (before (takes tag.session) tag.request (log ++ x ∷ [])) ≡ v → HasOutcome place tag history (log ++ x ∷ []) (if v then Awaited else Lost)) [
       | true ↦ λ h. h
       | false ↦ λ h. inl (h, none)
     ]) was
@@ -81,7 +81,7 @@ news_taken opening places order asked log x links histories requests h own outco
           ap (λ (os : List Outcome). slice_get os tag.atom) (sym outcomes) ∙ ap (λ (a : TakenRequest). slice_get a.outcomes tag.atom) (sym k.2) ∙ outcome_is in
           let is = at_once_of links (route_of_taken asked.ring asked.what) tag.atom (to_place place atom) outcome its_command its_outcome in
           let inside : place < places = commands_within places (order ++ asked ∷ []) (within-push places order asked requests.inside routed) tag (to_place place atom) command in
-          inr (subst (λ (o : Outcome). IsTold place tag (histories place) (log ++ x ∷ []) o) (sym is)
+          inr (subst (λ (o : Outcome). HasOutcome place tag (histories place) (log ++ x ∷ []) o) (sym is)
           (told_at_once place tag (histories place) log x (link_at links place) (subst (λ (s : ℕ). takes s x ≡ true) k.0 own) (k.1 ∙ turns-taken order log requests.turns tag.session) (ups place inside)
           (none_yet opening places order log histories place tag requests h k.1))))
     ]

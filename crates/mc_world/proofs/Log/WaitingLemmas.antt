@@ -20,7 +20,7 @@ use Rattle.mc_account.proofs.OpenSessions.{own_number}
 use Rattle.mc_account.proofs.StayingLemmas.{awaited_not_answered}
 use Rattle.mc_history.specs.declared.entries.Entry.{Entry}
 use Rattle.mc_world.specs.Accounts.{NotAnswered, WasLost, WasTaken, up_when_taken}
-use Rattle.mc_world.specs.LogHolds.{AnswersHold, CommandsHold, IsTold, IsUntaken, RequestsHold}
+use Rattle.mc_world.specs.LogHolds.{AnswersHold, CommandsHold, HasOutcome, IsUntaken, RequestsHold}
 use Rattle.mc_world.specs.Logs.{Log, loses, number_of, puts}
 use Rattle.mc_world.specs.Pools.{LosesLink, cut_off}
 use Rattle.mc_world.specs.WorldState.{PoolState, SiteState, StaleState, histories_of}
@@ -84,7 +84,7 @@ news_lost texts sent order lanes log proxy place histories holds up waits tag p 
       | inr k ↦ (
           let w = waits k.index tag k.at in
           let same : place ≡ p = ap (λ (r : Routed). r.server) (same_Some (to_place place w.atom) (to_place p atom) (sym w.command ∙ was)) in
-          inr (subst (λ (o : Outcome). IsTold p tag (histories p) (log ++ Happened (LinkLost place) ∷ []) o) (sym k.now)
+          inr (subst (λ (o : Outcome). HasOutcome p tag (histories p) (log ++ Happened (LinkLost place) ∷ []) o) (sym k.now)
           (inr (
             subst (λ (q : ℕ). up_when_taken q tag (log ++ Happened (LinkLost place) ∷ [])) same (up_stays place tag log (Happened (LinkLost place)) w.taken w.sent),
             subst (λ (q : ℕ). WasLost q tag (log ++ Happened (LinkLost place) ∷ [])) same (lost_now place order log tag w),

@@ -13,7 +13,7 @@ use Rattle.mc_route.specs.declared.outcomes.Outcome.{Outcome}
 use Rattle.mc_route.specs.declared.outcomes.Outcome.TheVariants.{Awaited, Lost, Reply}
 use Rattle.mc_route.specs.declared.routes.Routed.{Routed}
 use Rattle.mc_link.specs.declared.turns.Tag.{Tag}
-use Rattle.mc_proxy.specs.Emits.{answer_by, is_told}
+use Rattle.mc_proxy.specs.Emits.{answer_by, is_noted}
 use Rattle.mc_proxy.specs.Sending.{tag_of}
 use Rattle.mc_cache.specs.CacheState.{CacheState}
 use Rattle.mc_account.specs.Lookups.{asked_at, command_at, command_in, outcome_at, outcome_in}
@@ -22,7 +22,7 @@ use Rattle.mc_history.specs.declared.entries.Entry.{Entry}
 use Rattle.mc_world.specs.Accounts.{Accounts, answers_by}
 use Rattle.mc_world.specs.Logs.{Log, number_of, puts}
 use Rattle.mc_world.proofs.Log.EntryLemmas.{got_inside, got_some}
-use Rattle.mc_pool_laws.specs.Told.{AreAnswersFrom, AreToldBy, IsAnswerTo, IsToldBy, WasAnswered}
+use Rattle.mc_pool_laws.specs.Outcomes.{AreAnswersFrom, HaveOutcomesBy, IsAnswerTo, HasOutcomeBy, WasAnswered}
 use Rattle.mc_pool_laws.proofs.SentLemmas.{entry_taken, in_request, puts_few}
 
 -- tests that pass for a list
@@ -75,7 +75,7 @@ sized_at client (x ∷ xs) k e sized at =
 -- the outcome of a command of an answered request is known
 pub known_at : (losses : Losses) (ring : RingState) (opening : CacheState) (order : Order) (texts outs : ℕ → List ℕ) (histories : ℕ → List Entry) (log : Log)
     → Accounts losses ring opening order texts outs histories log → (tag : Tag) (command : Routed) → command_at order tag ≡ Some command → WasAnswered tag log
-    → (outcome : Outcome) × (outcome_at order tag ≡ Some outcome) × (is_told outcome ≡ true)
+    → (outcome : Outcome) × (outcome_at order tag ≡ Some outcome) × (is_noted outcome ≡ true)
 known_at losses ring opening order texts outs histories log h tag command at answered =
     let found = in_request (asked_at order tag.session tag.request) tag.atom command at in
     let e = found.0 in
@@ -85,12 +85,12 @@ known_at losses ring opening order texts outs histories log h tag command at ans
     let complete : is_complete e ≡ true =
     passes_at is_complete (take (number_of (puts tag.session) log) (entries_of tag.session order)) tag.request e (h.answered tag.session)
     (got_taken (number_of (puts tag.session) log) (entries_of tag.session order) tag.request e answered found.1) in
-    (outcome.0, ap (λ (o : Option TakenRequest). outcome_in o tag.atom) found.1 ∙ outcome.1, passes_at is_told e.outcomes tag.atom outcome.0 complete outcome.1)
+    (outcome.0, ap (λ (o : Option TakenRequest). outcome_in o tag.atom) found.1 ∙ outcome.1, passes_at is_noted e.outcomes tag.atom outcome.0 complete outcome.1)
 
 -- the histories and the log show it
 pub told_by : (losses : Losses) (ring : RingState) (opening : CacheState) (order : Order) (texts outs : ℕ → List ℕ) (histories : ℕ → List Entry) (log : Log)
     → Accounts losses ring opening order texts outs histories log → (tag : Tag) (command : Routed) (outcome : Outcome) → command_at order tag ≡ Some command
-    → outcome_at order tag ≡ Some outcome → is_told outcome ≡ true → IsToldBy histories log tag command outcome
+    → outcome_at order tag ≡ Some outcome → is_noted outcome ≡ true → HasOutcomeBy histories log tag command outcome
 told_by losses ring opening order texts outs histories log h tag command (Reply reply) at became told = h.replied tag command.server command.atom reply at became
 told_by losses ring opening order texts outs histories log h tag command Lost at became told = h.lost tag command.server command.atom at became
 told_by losses ring opening order texts outs histories log h tag command Awaited at became told = absurd (false≢true told)
@@ -98,8 +98,8 @@ told_by losses ring opening order texts outs histories log h tag command Awaited
 -- likewise for all commands of a request
 are_told : (histories : ℕ → List Entry) (log : Log) (client request at : ℕ) (commands : List Routed) (outcomes : List Outcome) → length outcomes ≡ length commands
     → ((k n : ℕ) (command : Routed) (outcome : Outcome) → n ≡ at + k → slice_get commands k ≡ Some command → slice_get outcomes k ≡ Some outcome
-    → IsToldBy histories log (tag_of client request n) command outcome)
-    → AreToldBy histories log client request at commands outcomes
+    → HasOutcomeBy histories log (tag_of client request n) command outcome)
+    → HaveOutcomesBy histories log client request at commands outcomes
 are_told histories log client request at [] [] size each = tt
 are_told histories log client request at [] (o ∷ os) size each = absurd (omega (arith, size))
 are_told histories log client request at (c ∷ cs) [] size each = absurd (omega (arith, size))
@@ -126,7 +126,7 @@ answer_to losses ring opening order texts outs histories log h client request e 
           told_by losses ring opening order texts outs histories log h (tag_of client request n) command outcome
           (ap (λ (o : Option TakenRequest). command_in o n) at ∙ ap (λ (m : ℕ). slice_get (route_of_taken e.ring e.what) m) same ∙ there)
           (ap (λ (o : Option TakenRequest). outcome_in o n) at ∙ ap (λ (m : ℕ). slice_get e.outcomes m) same ∙ became)
-          (passes_at is_told e.outcomes k outcome complete became));
+          (passes_at is_noted e.outcomes k outcome complete became));
       bytes = refl;
     }
 

@@ -45,18 +45,18 @@ pub record IsUnaccounted (opening : RingState) (texts : ℕ → List ℕ) (histo
   pub untold : HasEntry (histories command.server) tag ⊎ WasNeverSentOrLost command.server tag (histories command.server) log → ⊥
 
 -- the outcome of a command: its server's history has its entry with this reply, or it is lost, and the log shows the loss
-abbrev pub IsToldBy : (ℕ → List Entry) → Log → Tag → Routed → Outcome → Type 0
-IsToldBy histories log tag command (Reply reply) = HasReply (histories command.server) tag (spelling_of command.atom reply)
-IsToldBy histories log tag command Lost = WasNeverSentOrLost command.server tag (histories command.server) log
-IsToldBy histories log tag command Awaited = ⊥
+abbrev pub HasOutcomeBy : (ℕ → List Entry) → Log → Tag → Routed → Outcome → Type 0
+HasOutcomeBy histories log tag command (Reply reply) = HasReply (histories command.server) tag (spelling_of command.atom reply)
+HasOutcomeBy histories log tag command Lost = WasNeverSentOrLost command.server tag (histories command.server) log
+HasOutcomeBy histories log tag command Awaited = ⊥
 
 -- the outcomes of the commands of one request, in sequence, the first of which has this number
-abbrev pub AreToldBy : (ℕ → List Entry) → Log → ℕ → ℕ → ℕ → List Routed → List Outcome → Type 0
-AreToldBy histories log client request at [] [] = Unit {0}
-AreToldBy histories log client request at [] (outcome ∷ outcomes) = ⊥
-AreToldBy histories log client request at (command ∷ commands) [] = ⊥
-AreToldBy histories log client request at (command ∷ commands) (outcome ∷ outcomes) =
-    IsToldBy histories log (tag_of client request at) command outcome × AreToldBy histories log client request (suc at) commands outcomes
+abbrev pub HaveOutcomesBy : (ℕ → List Entry) → Log → ℕ → ℕ → ℕ → List Routed → List Outcome → Type 0
+HaveOutcomesBy histories log client request at [] [] = Unit {0}
+HaveOutcomesBy histories log client request at [] (outcome ∷ outcomes) = ⊥
+HaveOutcomesBy histories log client request at (command ∷ commands) [] = ⊥
+HaveOutcomesBy histories log client request at (command ∷ commands) (outcome ∷ outcomes) =
+    HasOutcomeBy histories log (tag_of client request at) command outcome × HaveOutcomesBy histories log client request (suc at) commands outcomes
 
 -- the answer to a client's request of a number, by a choice for lost commands, and by the outcomes of its commands
 pub record IsAnswerTo (losses : Losses) (opening : RingState) (texts : ℕ → List ℕ) (histories : ℕ → List Entry) (log : Log) (client request : ℕ) (answer : List ℕ) : Type 0 where
@@ -64,7 +64,7 @@ pub record IsAnswerTo (losses : Losses) (opening : RingState) (texts : ℕ → L
   pub ring : RingState
   pub taken : IsTaken opening texts log client request what ring
   pub outcomes : List Outcome
-  pub told : AreToldBy histories log client request 0 (route_of_taken ring what) outcomes
+  pub told : HaveOutcomesBy histories log client request 0 (route_of_taken ring what) outcomes
   pub bytes : answer ≡ answer_by losses what outcomes
 
 -- the answers to a client's requests, in sequence, the first of which is to the request of this number
