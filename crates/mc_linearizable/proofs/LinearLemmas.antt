@@ -15,7 +15,7 @@ use Rattle.mc_history.specs.declared.entries.Entry.{Entry}
 use Rattle.mc_history.specs.Histories.{tag_in}
 use Rattle.mc_registers.specs.Laws.{is_on}
 use Rattle.mc_registers.proofs.RunLemmas.{opening-knows}
-use Rattle.mc_registers.proofs.ToldLemmas.{told-runs}
+use Rattle.mc_registers.proofs.RecordLemmas.{recorded-runs}
 use Rattle.mc_world.specs.Accounts.{Accounts}
 use Rattle.mc_world.specs.Logs.{Log, before, in_life, number_of, puts, serves, takes}
 use Rattle.mc_world.specs.Runs.{Call, Calls}
@@ -87,7 +87,7 @@ pub linearizable : (losses : Losses) (ring : RingState) (budget items counter : 
     → (key : List ℕ) → IsLinearizable counter order histories log key
 linearizable losses ring budget items counter order texts outs histories log good bounds h key = record {
   lives = λ place life.
-      let all = told-runs order place (in_life place life log (histories place)) (opening_cache budget items counter) counter
+      let all = recorded-runs order place (in_life place life log (histories place)) (opening_cache budget items counter) counter
       (λ k. opening-knows budget items counter k bounds) (h.legal place life) in
       (all.0, all.1, all.2 key);
   in_time = keeps_time losses ring (opening_cache budget items counter) order texts outs histories log h good key;

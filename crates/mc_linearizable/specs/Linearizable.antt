@@ -27,7 +27,7 @@ use Rattle.mc_history.specs.declared.entries.Entry.{Entry}
 use Rattle.mc_history.specs.Histories.{tag_in}
 use Rattle.mc_registers.specs.Registers.{Done, IsRun}
 use Rattle.mc_registers.specs.Laws.{is_on}
-use Rattle.mc_registers.specs.Told.{TellEach, on_key}
+use Rattle.mc_registers.specs.Records.{RecordEach, on_key}
 use Rattle.mc_world.specs.Accounts.{Accounts, WasNeverSentOrLost, answers_by}
 use Rattle.mc_world.specs.Logs.{Log, before, in_life, moments_of, number_of, puts, takes, turns_of}
 use Rattle.mc_world.specs.Worlds.{WorldState, cache_of, history_of, put_out_of, text_of}
@@ -65,7 +65,7 @@ Became order histories log key tag place atom Awaited = ⊥
 
 -- Of these entries those on a key are a run of its register. The register holds nothing at first, and answers each command what its entry has.
 abbrev pub AreOfRegister : ℕ → Order → ℕ → List ℕ → List Entry → Type 0
-AreOfRegister counter order place key entries = (all : List Done) × TellEach order place entries all × IsRun counter None (on_key key all)
+AreOfRegister counter order place key entries = (all : List Done) × RecordEach order place entries all × IsRun counter None (on_key key all)
 
 -- A key is linearizable: by its order, which each life of each server continues.
 pub record IsLinearizable (counter : ℕ) (order : Order) (histories : ℕ → List Entry) (log : Log) (key : List ℕ) : Type 0 where

@@ -2,8 +2,8 @@ use Rattle.std.proofs.Common.{◌∙◌, ℕ, List, ◌++◌, codes, sym, ap, ap
 use Rattle.mc_script.specs.Escapes.{named_line}
 use Rattle.mc_script.proofs.OutputLemmas.{named_lines_next}
 use Rattle.mc_world.specs.Worlds.{text_of}
-use Rattle.mc_pool_script.specs.Told.{text_lines}
-use Rattle.mc_pool_script.proofs.told.push_text_lines.Goals as goal
+use Rattle.mc_pool_script.specs.Printed.{text_lines}
+use Rattle.mc_pool_script.proofs.printed.push_text_lines.Goals as goal
 
 pub loop-client-preserved : goal.loop-client-preserved
 loop-client-preserved g c =

@@ -1,9 +1,9 @@
 use Rattle.std.proofs.Common.{◌∙◌, ℕ, List, ◌++◌, sym, ap, append_assoc}
 use Rattle.mc_history.specs.declared.entries.Entry.{Entry}
 use Rattle.mc_world.specs.Worlds.{history_of}
-use Rattle.mc_pool_script.specs.Told.{histories_lines, history_lines}
-use Rattle.mc_pool_script.proofs.ToldLemmas.{histories_lines_more}
-use Rattle.mc_pool_script.proofs.told.push_histories.Goals as goal
+use Rattle.mc_pool_script.specs.Printed.{histories_lines, history_lines}
+use Rattle.mc_pool_script.proofs.PrintedLemmas.{histories_lines_more}
+use Rattle.mc_pool_script.proofs.printed.push_histories.Goals as goal
 
 pub loop-place-preserved : goal.loop-place-preserved
 loop-place-preserved g c =

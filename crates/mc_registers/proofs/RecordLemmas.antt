@@ -7,7 +7,7 @@ use Rattle.mc_history.specs.declared.entries.Entry.{Entry}
 use Rattle.mc_history.specs.Histories.{IsLegal}
 use Rattle.mc_registers.specs.Registers.{Done, IsRun}
 use Rattle.mc_registers.specs.Laws.{is_on, done_by, done_on}
-use Rattle.mc_registers.specs.Told.{TellEach, on_key}
+use Rattle.mc_registers.specs.Records.{RecordEach, on_key}
 use Rattle.mc_registers.proofs.RunLemmas.{Knows, runs}
 
 -- all commands that a cache executes, each with its reply
@@ -21,16 +21,16 @@ on_key-all key s (command ∷ commands) =
     ap (λ (es : List Done). cond (is_on key command.atom) (done_by s command ∷ es) es) (on_key-all key (command_step s command).0 commands)
 
 -- a legal history records such commands
-told-all : (order : Order) (place : ℕ) (history : List Entry) (s : CacheState) → IsLegal order place s history
-    → (commands : List Command) × TellEach order place history (done_all s commands)
-told-all order place [] s legal = ([], tt)
-told-all order place (e ∷ es) s legal =
+recorded-all : (order : Order) (place : ℕ) (history : List Entry) (s : CacheState) → IsLegal order place s history
+    → (commands : List Command) × RecordEach order place history (done_all s commands)
+recorded-all order place [] s legal = ([], tt)
+recorded-all order place (e ∷ es) s legal =
     let command : Command = record { atom = legal.0; moment = e.moment; refused = e.refused } in
-    let rest = told-all order place es (command_step s command).0 legal.3 in
+    let rest = recorded-all order place es (command_step s command).0 legal.3 in
     (command ∷ rest.0, (record { command = legal.1; moment = refl; reply = legal.2.reply }, rest.1))
 
-pub told-runs : (order : Order) (place : ℕ) (history : List Entry) (s : CacheState) (last : ℕ) → ((key : List ℕ) → Knows s key last None) → IsLegal order place s history
-    → (all : List Done) × TellEach order place history all × ((key : List ℕ) → IsRun last None (on_key key all))
-told-runs order place history s last knows legal =
-    let told = told-all order place history s legal in
+pub recorded-runs : (order : Order) (place : ℕ) (history : List Entry) (s : CacheState) (last : ℕ) → ((key : List ℕ) → Knows s key last None) → IsLegal order place s history
+    → (all : List Done) × RecordEach order place history all × ((key : List ℕ) → IsRun last None (on_key key all))
+recorded-runs order place history s last knows legal =
+    let told = recorded-all order place history s legal in
     (done_all s told.0, told.1, λ key. subst (λ (es : List Done). IsRun last None es) (sym (on_key-all key s told.0)) (runs told.0 s key last None (knows key)))

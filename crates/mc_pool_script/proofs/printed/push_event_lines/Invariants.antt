@@ -1,6 +1,6 @@
 use Rattle.std.proofs.Common.{◌≡◌, ◌++◌, take}
-use Rattle.mc_pool_script.specs.Told.{event_lines}
-use Rattle.mc_pool_script.proofs.told.push_event_lines.Given as goal
+use Rattle.mc_pool_script.specs.Printed.{event_lines}
+use Rattle.mc_pool_script.proofs.printed.push_event_lines.Given as goal
 
 abbrev pub invariant-loop-step : goal.invariant-loop-step
 invariant-loop-step l = record {

@@ -1,9 +1,9 @@
 use Rattle.std.proofs.Common.{◌∙◌, ℕ, ◌+◌, List, ◌++◌, take, get_or, codes, sym, ap, append_assoc}
 use Rattle.mc_script.specs.Escapes.{named_line}
 use Rattle.mc_world.specs.declared.errors.Step.TheVariants.{Done}
-use Rattle.mc_pool_script.specs.Told.{event_lines, word_of}
-use Rattle.mc_pool_script.proofs.ToldLemmas.{event_lines_more}
-use Rattle.mc_pool_script.proofs.told.push_event_lines.Goals as goal
+use Rattle.mc_pool_script.specs.Printed.{event_lines, word_of}
+use Rattle.mc_pool_script.proofs.PrintedLemmas.{event_lines_more}
+use Rattle.mc_pool_script.proofs.printed.push_event_lines.Goals as goal
 
 pub loop-step-preserved : goal.loop-step-preserved
 loop-step-preserved c =

@@ -9,7 +9,7 @@ use Rattle.mc_script.specs.Escapes.{named_line, named_lines}
 use Rattle.mc_script.proofs.OutputLemmas.{named_lines_more}
 use Rattle.mc_world.specs.Worlds.{CourseState, history_of}
 use Rattle.mc_world.specs.declared.errors.Step.{Step}
-use Rattle.mc_pool_script.specs.Told.{entry_line, event_lines, histories_lines, history_lines, word_of}
+use Rattle.mc_pool_script.specs.Printed.{entry_line, event_lines, histories_lines, history_lines, word_of}
 
 -- the line of one more event
 pub event_lines_more : (steps : List Step) (i : ℕ) (d : Step) → i < length steps

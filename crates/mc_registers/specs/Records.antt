@@ -10,17 +10,17 @@ use Rattle.mc_registers.specs.Registers.{Done}
 use Rattle.mc_registers.specs.Laws.{is_on}
 
 -- an entry is of this command, at its moment, and its bytes are the encoding of this reply
-pub record Tells (order : Order) (place : ℕ) (e : Entry) (done : Done) : Type 0 where
+pub record Records (order : Order) (place : ℕ) (e : Entry) (done : Done) : Type 0 where
   pub command : command_at order (tag_in e) ≡ Some (to_place place done.atom)
   pub moment : done.moment ≡ e.moment
   pub reply : e.reply ≡ spelling_of done.atom done.reply
 
 -- each entry of a history records its command, in order
-abbrev pub TellEach : Order → ℕ → List Entry → List Done → Type 0
-TellEach order place [] [] = Unit {0}
-TellEach order place [] (done ∷ all) = ⊥
-TellEach order place (e ∷ es) [] = ⊥
-TellEach order place (e ∷ es) (done ∷ all) = Tells order place e done × TellEach order place es all
+abbrev pub RecordEach : Order → ℕ → List Entry → List Done → Type 0
+RecordEach order place [] [] = Unit {0}
+RecordEach order place [] (done ∷ all) = ⊥
+RecordEach order place (e ∷ es) [] = ⊥
+RecordEach order place (e ∷ es) (done ∷ all) = Records order place e done × RecordEach order place es all
 
 -- the commands on a key
 abbrev pub on_key : List ℕ → List Done → List Done

@@ -1,7 +1,7 @@
 //! The printed account of a world that has played a script.
 ghost use Rattle.std.specs.Prelude.{◌≡◌, ◌++◌, codes, decimal, OnOk};
 ghost use Rattle.mc_script.specs.Escapes.{named_line};
-ghost use Rattle.mc_pool_script.specs.Told.{account_lines, entry_line, entry_name, event_lines, histories_lines, history_lines, numbered, refusal_words, text_lines, word_of};
+ghost use Rattle.mc_pool_script.specs.Printed.{account_lines, entry_line, entry_name, event_lines, histories_lines, history_lines, numbered, refusal_words, text_lines, word_of};
 
 use crate::plays::Played;
 use itoa::Buffer;
