@@ -6,7 +6,7 @@ use Rattle.std.proofs.lemmas.Bool.{and_from, and_parts}
 use Rattle.std.proofs.lemmas.List.{map-append, length-append, take-append-drop}
 use Rattle.std.proofs.lemmas.List.Elements.{All-nil, All-cons, All-head, All-tail}
 use Rattle.std.proofs.lemmas.List.Folds.{list_all-append}
-use Rattle.mc_request.specs.declared.parts.Taken.{Taken}
+use Rattle.mc_request.specs.declared.parts.Parsed.{Parsed}
 use Rattle.mc_route.specs.Routes.{route_of_taken}
 use Rattle.mc_route.specs.declared.outcomes.Outcome.{Outcome}
 use Rattle.mc_route.specs.declared.routes.Routed.{Routed}
@@ -117,7 +117,7 @@ entries-note n tag outcome (e ∷ es) =
 
 pub taken-note : (tag : Tag) (outcome : Outcome) (es : Order) → map (λ (e : TakenRequest). e.what) (note tag outcome es) ≡ map (λ (e : TakenRequest). e.what) es
 taken-note tag outcome [] = refl
-taken-note tag outcome (e ∷ es) = ap (λ (ts : List Taken). e.what ∷ ts) (taken-note tag outcome es)
+taken-note tag outcome (e ∷ es) = ap (λ (ts : List Parsed). e.what ∷ ts) (taken-note tag outcome es)
 
 pub requests-note : (tag : Tag) (outcome : Outcome) (es : Order)
     → map (λ (e : TakenRequest). e.request) (note tag outcome es) ≡ map (λ (e : TakenRequest). e.request) es

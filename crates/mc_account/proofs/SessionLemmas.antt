@@ -6,8 +6,8 @@ use Rattle.std.proofs.lemmas.Bool.{and_from, and_left, and_right, cases_lt, eq-e
 use Rattle.std.proofs.lemmas.List.{length-append, length-map, map-append, take-append-drop}
 use Rattle.mc_request_reader.specs.Reader.{rest_of}
 use Rattle.mc_request.specs.Requests.{requests_of}
-use Rattle.mc_request.specs.declared.parts.Taken.{Taken}
-use Rattle.mc_request.specs.declared.parts.Taken.TheVariants.{Whole, Faulty}
+use Rattle.mc_request.specs.declared.parts.Parsed.{Parsed}
+use Rattle.mc_request.specs.declared.parts.Parsed.TheVariants.{Whole, Faulty}
 use Rattle.mc_ring.specs.Rings.{RingState}
 use Rattle.mc_route.specs.Kept.{kept_of}
 use Rattle.mc_route.specs.Routes.{route_of_taken}
@@ -87,7 +87,7 @@ pub session_fed : (number : ℕ) (order : Order) (text sent piece : List ℕ) (b
     → SessionHolds number order text sent before → IsFed piece before after → SessionHolds number order (text ++ piece) sent after
 session_fed number order text sent piece before after h fed = record {
   rest = λ more.
-      ap (λ (ts : List Taken). taken_of number order ++ ts) (fed.rest more)
+      ap (λ (ts : List Parsed). taken_of number order ++ ts) (fed.rest more)
       ∙ h.rest (piece ++ more) ∙ ap requests_of (sym (append_assoc text piece more));
   done = h.done;
   incomplete = h.incomplete;
@@ -99,7 +99,7 @@ session_fed number order text sent piece before after h fed = record {
 }
 
 -- a turn takes the first of the rest
-pub session_took : (number : ℕ) (order : Order) (text sent : List ℕ) (ring : RingState) (losses : Losses) (links now : List LinkState) (before after : SessionState) (what : Taken)
+pub session_took : (number : ℕ) (order : Order) (text sent : List ℕ) (ring : RingState) (losses : Losses) (links now : List LinkState) (before after : SessionState) (what : Parsed)
     → SessionHolds number order text sent before → Takes number ring losses links now before after what
     → SessionHolds number
     (order ++ (record { session = number; request = before.taken; what = what; ring = ring; losses = losses; outcomes = map (at_once links) (route_of_taken ring what) }) ∷ []) text sent after
@@ -111,9 +111,9 @@ session_took number order text sent ring losses links now before after what h ta
     record {
       rest = λ more.
           ap (λ (es : Order). map (λ (x : TakenRequest). x.what) es ++ rest_of after.reader more) mine
-          ∙ ap (λ (ts : List Taken). ts ++ rest_of after.reader more) (map-append (λ (x : TakenRequest). x.what) (entries_of number order) (e ∷ []))
+          ∙ ap (λ (ts : List Parsed). ts ++ rest_of after.reader more) (map-append (λ (x : TakenRequest). x.what) (entries_of number order) (e ∷ []))
           ∙ append_assoc (taken_of number order) (what ∷ []) (rest_of after.reader more)
-          ∙ ap (λ (ts : List Taken). taken_of number order ++ ts) (sym (takes.first.rest more))
+          ∙ ap (λ (ts : List Parsed). taken_of number order ++ ts) (sym (takes.first.rest more))
           ∙ h.rest more;
       done = h.done;
       incomplete = h.incomplete ++ e ∷ [];
@@ -146,7 +146,7 @@ session_sent number order text sent session count h = record {
 }
 
 -- a data block plays no part in an answer
-answer_kept : (losses : Losses) (what : Taken) (outcomes : List Outcome) → answer_by losses (kept_of what) outcomes ≡ answer_by losses what outcomes
+answer_kept : (losses : Losses) (what : Parsed) (outcomes : List Outcome) → answer_by losses (kept_of what) outcomes ≡ answer_by losses what outcomes
 answer_kept losses (Whole request) outcomes = with-kept losses request outcomes
 answer_kept losses (Faulty fault) outcomes = refl
 
@@ -315,7 +315,7 @@ session_noted tag outcome order text sent session numbered once open_one h =
     let split = noted_split tag outcome order h.done h.incomplete h.split n.absent in
     record {
       rest = λ more.
-          ap₂ (λ (ts : List Taken) (s : SessionState). ts ++ rest_of s.reader more) (noted_taken tag outcome tag.session order) now ∙ h.rest more;
+          ap₂ (λ (ts : List Parsed) (s : SessionState). ts ++ rest_of s.reader more) (noted_taken tag outcome tag.session order) now ∙ h.rest more;
       done = h.done;
       incomplete = note tag outcome h.incomplete;
       split = split;
@@ -335,7 +335,7 @@ left_noted tag outcome order text sent once open_one h =
     let n = not_done tag order h.done h.incomplete h.split h.complete once open_one in
     record {
       untaken = h.untaken;
-      rest = ap (λ (ts : List Taken). ts ++ h.untaken) (noted_taken tag outcome tag.session order) ∙ h.rest;
+      rest = ap (λ (ts : List Parsed). ts ++ h.untaken) (noted_taken tag outcome tag.session order) ∙ h.rest;
       done = h.done;
       incomplete = note tag outcome h.incomplete;
       split = noted_split tag outcome order h.done h.incomplete h.split n.absent;

@@ -3,7 +3,7 @@ use Rattle.std.specs.Prelude.{ℕ, ◌≡◌, ◌≤◌, ◌==◌, true, List, [
 use Rattle.std.specs.List.{list_all}
 use Rattle.mc_request_reader.specs.Reader.{rest_of}
 use Rattle.mc_request.specs.Requests.{requests_of}
-use Rattle.mc_request.specs.declared.parts.Taken.{Taken}
+use Rattle.mc_request.specs.declared.parts.Parsed.{Parsed}
 use Rattle.mc_proxy.specs.SessionState.{SessionState, link_at}
 use Rattle.mc_proxy.specs.ProxyState.{ProxyState, session_at}
 use Rattle.mc_account.specs.Orders.{Order, AreInOrder, IsSized, HasChoice, answers_of, entries_of, is_complete, taken_of, unanswered_of}
@@ -24,7 +24,7 @@ pub record SessionHolds (number : ℕ) (order : Order) (text sent : List ℕ) (s
 
 -- The session of a number after it has left: the bytes consumed are the first of the answers to its first requests.
 pub record SessionLeft (number : ℕ) (order : Order) (text sent : List ℕ) : Type 0 where
-  pub untaken : List Taken
+  pub untaken : List Parsed
   pub rest : taken_of number order ++ untaken ≡ requests_of text
   pub done : Order
   pub incomplete : Order

@@ -2,7 +2,7 @@
 use Rattle.std.specs.Prelude.{ℕ, suc, ◌≡◌, ◌==◌, ◌&&◌, Bool, List, [], ◌∷◌, ◌++◌, length, map, if◌then◌else◌}
 use Rattle.std.specs.List.{list_all}
 use Rattle.mc_request.specs.declared.parts.Atom.{Atom}
-use Rattle.mc_request.specs.declared.parts.Taken.{Taken}
+use Rattle.mc_request.specs.declared.parts.Parsed.{Parsed}
 use Rattle.mc_ring.specs.Rings.{RingState}
 use Rattle.mc_route.specs.Kept.{kept_of}
 use Rattle.mc_route.specs.Routes.{route_of_taken}
@@ -20,7 +20,7 @@ use Rattle.mc_proxy.specs.SessionState.{Unanswered}
 pub record TakenRequest : Type 0 where
   pub session : ℕ
   pub request : ℕ
-  pub what : Taken
+  pub what : Parsed
   pub ring : RingState
   pub losses : Losses
   pub outcomes : List Outcome
@@ -34,7 +34,7 @@ abbrev pub entries_of : ℕ → Order → Order
 entries_of session [] = []
 entries_of session (e ∷ es) = if e.session == session then e ∷ entries_of session es else entries_of session es
 
-abbrev pub taken_of : ℕ → Order → List Taken
+abbrev pub taken_of : ℕ → Order → List Parsed
 taken_of session order = map (λ e. e.what) (entries_of session order)
 
 -- a number of consecutive numbers, from one on

@@ -6,7 +6,7 @@ use Rattle.std.proofs.lemmas.List.{append_cancel_left, map-append}
 use Rattle.mc_request.specs.Atoms.{head_of}
 use Rattle.mc_request.specs.Requests.{requests_of}
 use Rattle.mc_request.specs.declared.parts.Atom.{Atom}
-use Rattle.mc_request.specs.declared.parts.Taken.{Taken}
+use Rattle.mc_request.specs.declared.parts.Parsed.{Parsed}
 use Rattle.mc_request_reader.specs.Reader.{rest_of}
 use Rattle.mc_reply.specs.CanHave.{can_have}
 use Rattle.mc_reply.specs.Spelling.{spelling_of}
@@ -35,7 +35,7 @@ read_spelled (c ∷ cs) more good =
     let parts = and_parts (is_good c) (list_all is_good cs) good in
     ap requests_of (append_assoc (spelling_of_atom c.0) (spelled cs) more)
     ∙ requests-spelled c.0 (spelled cs ++ more) parts.0
-    ∙ ap (λ (ts : List Taken). read_as c ∷ ts) (read_spelled cs more parts.1)
+    ∙ ap (λ (ts : List Parsed). read_as c ∷ ts) (read_spelled cs more parts.1)
 
 -- What a connection reads: if the bytes that arrived and those in flight spell these commands, and the first of these were taken,
 -- it reads the others, and after them what follows.
@@ -45,11 +45,11 @@ pub reads_others : (opening : CacheState) (number : ℕ) (text going sent : List
     → (more : List ℕ) → rest_of connection.reader (going ++ more) ≡ map read_as others ++ requests_of more
 reads_others opening number text going sent made connection others holds put good more =
     append_cancel_left (map read_as (commands_on number made)) (rest_of connection.reader (going ++ more)) (map read_as others ++ requests_of more)
-    (ap (λ (ts : List Taken). ts ++ rest_of connection.reader (going ++ more)) (sym (taken_on number made))
+    (ap (λ (ts : List Parsed). ts ++ rest_of connection.reader (going ++ more)) (sym (taken_on number made))
     ∙ holds.rest (going ++ more)
     ∙ ap requests_of (sym (append_assoc text going more) ∙ ap (λ (bytes : List ℕ). bytes ++ more) put)
     ∙ read_spelled (commands_on number made ++ others) more good
-    ∙ ap (λ (ts : List Taken). ts ++ requests_of more) (map-append read_as (commands_on number made) others)
+    ∙ ap (λ (ts : List Parsed). ts ++ requests_of more) (map-append read_as (commands_on number made) others)
     ∙ append_assoc (map read_as (commands_on number made)) (map read_as others) (requests_of more))
 
 -- before any byte has arrived a reply has only begun; so no reply is spelled by no byte

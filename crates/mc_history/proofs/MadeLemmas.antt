@@ -4,7 +4,7 @@ use Rattle.mc_request.specs.Atoms.{head_of}
 use Rattle.mc_request.specs.declared.meta.MetaCommand.TheVariants as metas
 use Rattle.mc_request.specs.declared.parts.Atom.{Atom}
 use Rattle.mc_request.specs.declared.parts.Atom.TheVariants as atoms
-use Rattle.mc_request.specs.declared.parts.Taken.{Taken}
+use Rattle.mc_request.specs.declared.parts.Parsed.{Parsed}
 use Rattle.mc_request.specs.declared.parts.Update.TheVariants.{Store, Touch, Delete, Count, FlushAll}
 use Rattle.mc_reply.specs.CanHave.{can_have}
 use Rattle.mc_reply.specs.Spelling.{answer_of, spelling_of}
@@ -65,7 +65,7 @@ taken_on number (m ∷ ms) =
     let again = taken_on number ms in
     (elim (m.connection == number) as (λ v. (if v then read_as m.command ∷ taken_of number (map taking_of ms) else taken_of number (map taking_of ms))
     ≡ map read_as (map (λ (x : Made). x.command) (if v then m ∷ made_on number ms else made_on number ms))) [
-      | true ↦ ap (λ (ts : List Taken). read_as m.command ∷ ts) again
+      | true ↦ ap (λ (ts : List Parsed). read_as m.command ∷ ts) again
       | false ↦ again
     ])
 

@@ -3,7 +3,7 @@ ghost use Rattle.std.specs.Prelude.{ℕ, ◌≡◌, true, List};
 ghost use Rattle.mc_request.specs.Faults.{fault_line};
 ghost use Rattle.mc_request.specs.declared.faults.Fault.TheVariants.{OutOfMemory};
 ghost use Rattle.mc_request.specs.declared.parts.Atom.{Atom};
-ghost use Rattle.mc_request.specs.declared.parts.Taken.TheVariants.{Whole};
+ghost use Rattle.mc_request.specs.declared.parts.Parsed.TheVariants.{Whole};
 ghost use Rattle.mc_reply.specs.CanHave.{can_have};
 ghost use Rattle.mc_codec.specs.Spellings.{is_good_atom, request_of};
 ghost use Rattle.mc_link.specs.LinkState.{LinkState};

@@ -11,8 +11,8 @@ use Rattle.mc_request.specs.declared.parts.Atom.{Atom}
 use Rattle.mc_request.specs.declared.parts.Atom.TheVariants as atoms
 use Rattle.mc_request.specs.declared.parts.Request.TheVariants as requests
 use Rattle.mc_request.specs.declared.parts.StoreMode.TheVariants.{Set}
-use Rattle.mc_request.specs.declared.parts.Taken.{Taken}
-use Rattle.mc_request.specs.declared.parts.Taken.TheVariants.{Whole}
+use Rattle.mc_request.specs.declared.parts.Parsed.{Parsed}
+use Rattle.mc_request.specs.declared.parts.Parsed.TheVariants.{Whole}
 use Rattle.mc_request.specs.declared.parts.Update.TheVariants.{Store}
 use Rattle.mc_reply.specs.Spelling.{spelling_of}
 use Rattle.mc_reply.specs.declared.replies.Reply.{Reply as AReply}
@@ -47,10 +47,10 @@ use Rattle.mc_pool_laws.proofs.SentLemmas.{in_request}
 abbrev pub store_of : List ℕ → Atom (List ℕ)
 store_of value = atoms.Update (Store Set None (codes "k") 0 (pos 0) value)
 
-abbrev pub store_asked : List ℕ → Taken
+abbrev pub store_asked : List ℕ → Parsed
 store_asked value = Whole (requests.Update (Store Set None (codes "k") 0 (pos 0) value) false)
 
-abbrev pub asked_of : RingState → ℕ → Taken → Outcome → TakenRequest
+abbrev pub asked_of : RingState → ℕ → Parsed → Outcome → TakenRequest
 asked_of ring request what outcome = record { session = 0; request = request; what = what; ring = ring; losses = Told; outcomes = outcome ∷ [] }
 
 abbrev pub entry_of : ℕ → Atom (List ℕ) → AReply (List ℕ) → Entry
@@ -237,7 +237,7 @@ asked_own order own client request x at =
     (eqb-true 0 client there.0, there.1)
 
 asked_by : (order : Order) (text : List ℕ) → requests_of text ≡ map (λ (x : TakenRequest). x.what) order → (v : Bool)
-    → (untaken : List Taken) × (map (λ (x : TakenRequest). x.what) (if v then order else []) ++ untaken ≡ requests_of (if v then text else []))
+    → (untaken : List Parsed) × (map (λ (x : TakenRequest). x.what) (if v then order else []) ++ untaken ≡ requests_of (if v then text else []))
 asked_by order text read true = ([], append-nil (map (λ (x : TakenRequest). x.what) order) ∙ sym read)
 asked_by order text read false = ([], sym nothing_read)
 

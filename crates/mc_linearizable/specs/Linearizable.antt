@@ -13,7 +13,7 @@
 use Rattle.std.specs.Prelude.{ℕ, ◌≡◌, ◌<◌, ◌⊎◌, ◌++◌, true, List, Some, None, All, map, slice_get, take}
 use Rattle.mc_request.specs.Requests.{requests_of}
 use Rattle.mc_request.specs.declared.parts.Atom.{Atom}
-use Rattle.mc_request.specs.declared.parts.Taken.{Taken}
+use Rattle.mc_request.specs.declared.parts.Parsed.{Parsed}
 use Rattle.mc_reply.specs.Spelling.{spelling_of}
 use Rattle.mc_reply.specs.declared.replies.Reply.{Reply as AReply}
 use Rattle.mc_route.specs.Routes.{to_place}
@@ -83,7 +83,7 @@ pub record IsLinearizable (counter : ℕ) (order : Order) (histories : ℕ → L
 -- account, and not this, says which rings route requests.
 pub record IsLinearizablePool (losses : Losses) (counter : ℕ) (order : Order) (texts outs : ℕ → List ℕ) (histories : ℕ → List Entry) (log : Log) : Type 0 where
   -- the requests of each client were taken as it sent them, in order, by the turns of the log; each of their commands has its outcome
-  pub asked : (client : ℕ) → (untaken : List Taken) × (taken_of client order ++ untaken ≡ requests_of (texts client))
+  pub asked : (client : ℕ) → (untaken : List Parsed) × (taken_of client order ++ untaken ≡ requests_of (texts client))
   pub turns : map (λ (e : TakenRequest). e.session) order ≡ turns_of log
   pub sized : All IsSized order
   -- each client was given the answers to its first requests, one for each put of the log, by the outcomes of their commands and the choice for

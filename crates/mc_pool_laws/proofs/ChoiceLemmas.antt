@@ -8,8 +8,8 @@ use Rattle.mc_request.specs.declared.meta.MetaGet.{MetaGet}
 use Rattle.mc_request.specs.declared.parts.Atom.TheVariants as atoms
 use Rattle.mc_request.specs.declared.parts.Request.{Request}
 use Rattle.mc_request.specs.declared.parts.Request.TheVariants.{Get, Meta}
-use Rattle.mc_request.specs.declared.parts.Taken.{Taken}
-use Rattle.mc_request.specs.declared.parts.Taken.TheVariants.{Whole}
+use Rattle.mc_request.specs.declared.parts.Parsed.{Parsed}
+use Rattle.mc_request.specs.declared.parts.Parsed.TheVariants.{Whole}
 use Rattle.mc_reply.specs.MetaSpelling.{meta_spelling}
 use Rattle.mc_reply.specs.Spelling.{answer_of, end_line}
 use Rattle.mc_reply.specs.declared.replies.Reply.{Reply as AReply}
@@ -64,7 +64,7 @@ Shows histories client request commands keys answer =
 -- the bytes of an answer to a whole request
 bytes_of : (losses : Losses) (ring : RingState) (texts : ℕ → List ℕ) (histories : ℕ → List Entry) (log : Log) (client request : ℕ) (answer : List ℕ)
     → (h : IsAnswerTo losses ring texts histories log client request answer) → (what : Request) → h.what ≡ Whole what → answer ≡ joined_with losses what h.outcomes
-bytes_of losses ring texts histories log client request answer h what is = h.bytes ∙ ap (λ (t : Taken). answer_by losses t h.outcomes) is
+bytes_of losses ring texts histories log client request answer h what is = h.bytes ∙ ap (λ (t : Parsed). answer_by losses t h.outcomes) is
 
 pub shown_missed : (ring : RingState) (texts : ℕ → List ℕ) (histories : ℕ → List Entry) (log : Log) (client request : ℕ) (answer : List ℕ)
     → (h : IsAnswerTo Missed ring texts histories log client request answer) → (keys : List (List ℕ)) (exptime : Option ℤ) (with_cas : Bool) → h.what ≡ Whole (Get keys exptime with_cas)
@@ -124,7 +124,7 @@ shown_meta_missed ring texts histories log client request answer h key get form 
     subst (λ (bytes : List ℕ). ShowsMeta h.ring histories log client request key get form bytes)
     (sym (bytes_of Missed ring texts histories log client request answer h (Meta (metas.Get key get) form) is))
     (meta_by h.ring histories log client request key get form h.outcomes
-    (subst (λ (t : Taken). HaveOutcomesBy histories log client request 0 (route_of_taken h.ring t) h.outcomes) is h.told))
+    (subst (λ (t : Parsed). HaveOutcomesBy histories log client request 0 (route_of_taken h.ring t) h.outcomes) is h.told))
 
 -- if no command was lost, each has a reply
 all_replied : (histories : ℕ → List Entry) (log : Log) (client request at : ℕ) (commands : List Routed) (outcomes : List Outcome) → has_lost outcomes ≡ false

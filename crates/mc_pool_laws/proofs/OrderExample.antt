@@ -9,7 +9,7 @@ use Rattle.mc_text.specs.Words.{words}
 use Rattle.mc_request.specs.Names.{name_of}
 use Rattle.mc_request.specs.Requests.{next_request, requests_of, requests_within}
 use Rattle.mc_request.specs.declared.parts.Atom.{Atom}
-use Rattle.mc_request.specs.declared.parts.Taken.{Taken}
+use Rattle.mc_request.specs.declared.parts.Parsed.{Parsed}
 use Rattle.mc_reply.specs.Spelling.{spelling_of}
 use Rattle.mc_reply.specs.declared.replies.Reply.{Reply as AReply}
 use Rattle.mc_reply.specs.declared.replies.Reply.TheVariants.{Flushed}
@@ -78,7 +78,7 @@ asked_two : (client request : ℕ) (x : TakenRequest) → asked_at two_asked cli
     → (0 ≡ client) × (((request ≡ 0) × (x ≡ first_asked)) ⊎ ((request ≡ 1) × (x ≡ second_asked)))
 asked_two client request x at = grind (arith, own_by, two_here, mine_by)
 
-text_by : (v : Bool) → (untaken : List Taken) × (map (λ (e : TakenRequest). e.what) (mine v) ++ untaken ≡ requests_of (codes "flush_all\r\nflush_all\r\n"))
+text_by : (v : Bool) → (untaken : List Parsed) × (map (λ (e : TakenRequest). e.what) (mine v) ++ untaken ≡ requests_of (codes "flush_all\r\nflush_all\r\n"))
 text_by true = ([], sym two_read)
 text_by false = (requests_of (codes "flush_all\r\nflush_all\r\n"), refl)
 

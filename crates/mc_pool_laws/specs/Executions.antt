@@ -2,7 +2,7 @@
 -- project's own.
 use Rattle.std.specs.Prelude.{ℕ, ◌==◌, List, [], ◌∷◌, ◌++◌, drop, if◌then◌else◌, Option, Some, None, slice_get}
 use Rattle.std.specs.Option.{option_map}
-use Rattle.mc_request.specs.declared.parts.Taken.{Taken}
+use Rattle.mc_request.specs.declared.parts.Parsed.{Parsed}
 use Rattle.mc_request.specs.Requests.{requests_of}
 use Rattle.mc_reply.specs.declared.replies.Reply.{Reply}
 use Rattle.mc_reply.specs.Spelling.{spelling_of}
@@ -24,7 +24,7 @@ abbrev pub LookUp : Type 0
 LookUp = Tag → Option Routed
 
 -- the command of a number of a request that a client sent, by the ring
-abbrev pub command_sent : RingState → Option Taken → ℕ → Option Routed
+abbrev pub command_sent : RingState → Option Parsed → ℕ → Option Routed
 command_sent ring None atom = None
 command_sent ring (Some what) atom = slice_get (route_of_taken ring what) atom
 

@@ -1,6 +1,6 @@
 -- The outcome of a command, and the answer to its client, as the histories and the log show them. All of it is this project's own.
 use Rattle.std.specs.Prelude.{ℕ, ◌≡◌, ◌<◌, ◌⊎◌, suc, List, [], ◌∷◌, Some, slice_get}
-use Rattle.mc_request.specs.declared.parts.Taken.{Taken}
+use Rattle.mc_request.specs.declared.parts.Parsed.{Parsed}
 use Rattle.mc_reply.specs.Spelling.{spelling_of}
 use Rattle.mc_ring.specs.Rings.{RingState}
 use Rattle.mc_route.specs.Routes.{route_of_taken}
@@ -60,7 +60,7 @@ HaveOutcomesBy histories log client request at (command ∷ commands) (outcome �
 
 -- the answer to a client's request of a number, by a choice for lost commands, and by the outcomes of its commands
 pub record IsAnswerTo (losses : Losses) (opening : RingState) (texts : ℕ → List ℕ) (histories : ℕ → List Entry) (log : Log) (client request : ℕ) (answer : List ℕ) : Type 0 where
-  pub what : Taken
+  pub what : Parsed
   pub ring : RingState
   pub taken : IsTaken opening texts log client request what ring
   pub outcomes : List Outcome

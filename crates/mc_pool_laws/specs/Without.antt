@@ -2,7 +2,7 @@
 use Rattle.std.specs.Prelude.{ℕ, ◌≡◌, ◌≢◌, ◌<◌, true, List, ◌++◌, map, take, Some, slice_get, All}
 use Rattle.std.specs.List.{list_all}
 use Rattle.mc_request.specs.declared.parts.Atom.{Atom}
-use Rattle.mc_request.specs.declared.parts.Taken.{Taken}
+use Rattle.mc_request.specs.declared.parts.Parsed.{Parsed}
 use Rattle.mc_request.specs.Requests.{requests_of}
 use Rattle.mc_reply.specs.declared.replies.Reply.{Reply as AReply}
 use Rattle.mc_reply.specs.Spelling.{spelling_of}
@@ -42,7 +42,7 @@ pub data Clause : Type 0 where
 
 -- the clauses of an account, except one, as they are there
 pub record AccountsBut (one : Clause) (losses : Losses) (ring : RingState) (opening : CacheState) (order : Order) (texts outs : ℕ → List ℕ) (histories : ℕ → List Entry) (log : Log) : Type 0 where
-  pub asked : one ≢ Asked → (client : ℕ) → (untaken : List Taken) × (taken_of client order ++ untaken ≡ requests_of (texts client))
+  pub asked : one ≢ Asked → (client : ℕ) → (untaken : List Parsed) × (taken_of client order ++ untaken ≡ requests_of (texts client))
   pub turns : one ≢ Turns → map (λ (e : TakenRequest). e.session) order ≡ turns_of log
   pub numbered : one ≢ Numbered → (client : ℕ) → AreInOrder (entries_of client order)
   pub rings : one ≢ Rings → (client request : ℕ) (e : TakenRequest) → asked_at order client request ≡ Some e → IsRingAfter ring (before (takes client) request log) e.ring

@@ -7,7 +7,7 @@ ghost use Rattle.mc_request.specs.declared.meta.MetaForm.{MetaForm};
 ghost use Rattle.mc_request.specs.declared.meta.MetaGet.{MetaGet};
 ghost use Rattle.mc_request.specs.declared.parts.Request.{Request};
 ghost use Rattle.mc_request.specs.declared.parts.Request.TheVariants.{Get, Meta};
-ghost use Rattle.mc_request.specs.declared.parts.Taken.TheVariants.{Whole};
+ghost use Rattle.mc_request.specs.declared.parts.Parsed.TheVariants.{Whole};
 ghost use Rattle.mc_reply.specs.MetaSpelling.{meta_spelling};
 ghost use Rattle.mc_reply.specs.Spelling.{answer_of, end_line};
 ghost use Rattle.mc_reply.specs.declared.replies.Reply.{Reply};

@@ -10,7 +10,7 @@ use crate::session_turns::{Emit, SessionTurn};
 use crate::stores::{may_store, send_store};
 use crate::unanswered::Unanswered;
 use mc_link::{Link, Tag};
-use mc_request::{Asked, Taken};
+use mc_request::{Parsed, RequestRef};
 use mc_request_reader::{Front, LentGet, Peek, Reader};
 use mc_ring::Ring;
 use mc_route::{Losses, Outcome, Routed, goes_to, route};
@@ -123,7 +123,7 @@ impl Session {
                 with_cas,
                 front,
             } = get;
-            let asked = Asked::Get {
+            let asked = RequestRef::Get {
                 keys,
                 exptime: None,
                 with_cas,
@@ -239,7 +239,7 @@ impl Session {
     }
 
     /// Returns whether the session has reached a mark of its own, or a link that the request needs has.
-    fn must_wait(&self, links: &[Link], asked: &Asked<'_>, ring: &Ring) -> bool
+    fn must_wait(&self, links: &[Link], asked: &RequestRef<'_>, ring: &Ring) -> bool
         requires { is_well_formed (asked_of asked.now) ≡ true }
         ensures { result ≡ is_marked self.now (states links.now) (route_of_taken ring.now (asked_of asked.now)) }
     {
@@ -255,7 +255,7 @@ impl Session {
         losses: Losses,
         links: &mut [Link],
         queue: &mut VecDeque<Routed>,
-        kept: Taken,
+        kept: Parsed,
         front: Front,
     ) -> Result<(), SessionError>
         requires first { front_of self.old.reader ≡ Some front }

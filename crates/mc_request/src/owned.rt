@@ -10,13 +10,13 @@ ghost use Rattle.mc_request.specs.LinesSeen.{asked_of};
 
 use crate::hides::{Hides, quiet_hides};
 use crate::keys::Keys;
-use crate::lines::Asked;
+use crate::lines::RequestRef;
 use crate::meta::{FlagWords, MetaCommand, MetaForm, key_bytes};
-use crate::parts::{Atom, ReadError, Request, Taken, Update};
+use crate::parts::{Atom, Parsed, ReadError, Request, Update};
 use mc_text::{Block, CODED_ROOM, Key, WordIter};
 use std::alloc::Global;
 
-impl Asked<'_> {
+impl RequestRef<'_> {
     ghost use Rattle.mc_request.specs.Hides.{hides_taken};
 
     /// Returns whether nothing is read after it.
@@ -24,8 +24,8 @@ impl Asked<'_> {
         ensures { result ≡ ends (asked_of self.now) }
     {
         match self {
-            Asked::Quit => true,
-            Asked::Faulty(fault) => fault.closes(),
+            RequestRef::Quit => true,
+            RequestRef::Faulty(fault) => fault.closes(),
             _ => false,
         }
     }
@@ -35,20 +35,20 @@ impl Asked<'_> {
         ensures { result ≡ hides_taken (asked_of self.now) }
     {
         match self {
-            Asked::Update { noreply: true, .. } => Hides::ReplyLine,
-            Asked::Meta { command, form } => quiet_hides(command, form.quiet),
+            RequestRef::Update { noreply: true, .. } => Hides::ReplyLine,
+            RequestRef::Meta { command, form } => quiet_hides(command, form.quiet),
             _ => Hides::Nothing,
         }
     }
 
     /// Returns an owned request or fault: its keys and its block are copied.
-    pub fn taken(self, alloc: Global) -> Result<Taken, ReadError>
+    pub fn taken(self, alloc: Global) -> Result<Parsed, ReadError>
         requires { is_well_formed (asked_of self) ≡ true }
         ensures { IfOk result (λ taken. taken ≡ asked_of self.entry) }
     {
-        Ok(Taken::Whole(match self {
-            Asked::Faulty(fault) => return Ok(Taken::Faulty(fault)),
-            Asked::Get {
+        Ok(Parsed::Whole(match self {
+            RequestRef::Faulty(fault) => return Ok(Parsed::Faulty(fault)),
+            RequestRef::Get {
                 keys,
                 exptime,
                 with_cas,
@@ -57,17 +57,17 @@ impl Asked<'_> {
                 exptime,
                 with_cas,
             },
-            Asked::Update { update, noreply } => Request::Update {
+            RequestRef::Update { update, noreply } => Request::Update {
                 update: update.owned(alloc)?,
                 noreply,
             },
-            Asked::Meta { command, form } => Request::Meta {
+            RequestRef::Meta { command, form } => Request::Meta {
                 command: command.owned(alloc, form.coded)?,
                 form: form.owned(alloc)?,
             },
-            Asked::MetaNoop => Request::MetaNoop,
-            Asked::Version => Request::Version,
-            Asked::Quit => Request::Quit,
+            RequestRef::MetaNoop => Request::MetaNoop,
+            RequestRef::Version => Request::Version,
+            RequestRef::Quit => Request::Quit,
         }))
     }
 }

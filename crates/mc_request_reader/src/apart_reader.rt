@@ -45,7 +45,7 @@ impl Model for ApartReader {
 impl ApartReader {
     ghost use Rattle.mc_request.specs.Requests.{ends};
     ghost use Rattle.mc_request.specs.WellFormed.{is_well_formed};
-    ghost use Rattle.mc_request.specs.declared.parts.Taken.{Taken};
+    ghost use Rattle.mc_request.specs.declared.parts.Parsed.{Parsed};
     ghost use Rattle.mc_request_reader.specs.Reader.{rest_of, kept_of};
     ghost use Rattle.mc_request_reader.specs.Peeks.{Peeks, Shows, HasNone, IsAlone, IsFirst, IsWellFormedPeek, front_by, get_of, set_of};
 
@@ -150,8 +150,8 @@ impl ApartReader {
     /// Borrows the first line, if its end is known and it begins like no storage command, as [`Reader::peek_blockless`] does.
     #[inline(always)]
     pub fn peek_blockless(&self) -> Option<LentLine<'_>>
-        ensures seen { IfSome result (λ line. (what : Taken) → IsAlone line what → Shows self.now what (front_by line what)) }
-        ensures well_formed { IfSome result (λ line. (what : Taken) → IsAlone line what → is_well_formed what ≡ true) }
+        ensures seen { IfSome result (λ line. (what : Parsed) → IsAlone line what → Shows self.now what (front_by line what)) }
+        ensures well_formed { IfSome result (λ line. (what : Parsed) → IsAlone line what → is_well_formed what ≡ true) }
         ensures little { KeepsLittle self.now }
     {
         self.reader.peek_blockless()

@@ -52,7 +52,7 @@ impl Reader {
     ghost use Rattle.mc_request.specs.Requests.{requests_of};
     ghost use Rattle.mc_request_reader.specs.Reader.{fresh_reader, rest_of, kept_of, KeepsRest, KeepsLittle};
     ghost use Rattle.mc_request.specs.WellFormed.{is_well_formed};
-    ghost use Rattle.mc_request.specs.declared.parts.Taken.{Taken};
+    ghost use Rattle.mc_request.specs.declared.parts.Parsed.{Parsed};
     ghost use Rattle.mc_request_reader.specs.Peeks.{Peeks, Shows, HasNone, IsAlone, IsWellFormedPeek, front_by, front_of, get_of, past};
 
     /// Makes a reader to which nothing has arrived. It takes no memory.
@@ -136,8 +136,8 @@ impl Reader {
     /// no memory, and copies nothing.
     #[inline(always)]
     pub fn peek_blockless(&self) -> Option<LentLine<'_>>
-        ensures seen { IfSome result (λ line. (what : Taken) → IsAlone line what → Shows self.now what (front_by line what)) }
-        ensures well_formed { IfSome result (λ line. (what : Taken) → IsAlone line what → is_well_formed what ≡ true) }
+        ensures seen { IfSome result (λ line. (what : Parsed) → IsAlone line what → Shows self.now what (front_by line what)) }
+        ensures well_formed { IfSome result (λ line. (what : Parsed) → IsAlone line what → is_well_formed what ≡ true) }
         ensures little { KeepsLittle self.now }
     {
         self.unread.peek_blockless()

@@ -22,8 +22,8 @@ use Rattle.mc_request.specs.declared.meta.Show.{Show}
 use Rattle.mc_request.specs.declared.parts.Request.TheVariants.{Get, Meta, MetaNoop, Version, Quit, Update as AnUpdate}
 use Rattle.mc_request.specs.declared.parts.StoreMode.{StoreMode}
 use Rattle.mc_request.specs.declared.parts.StoreMode.TheVariants.{Set, Add, Replace, Append, Prepend}
-use Rattle.mc_request.specs.declared.parts.Taken.{Taken}
-use Rattle.mc_request.specs.declared.parts.Taken.TheVariants.{Whole, Faulty}
+use Rattle.mc_request.specs.declared.parts.Parsed.{Parsed}
+use Rattle.mc_request.specs.declared.parts.Parsed.TheVariants.{Whole, Faulty}
 use Rattle.mc_request.specs.declared.parts.Update.{Update}
 use Rattle.mc_request.specs.declared.parts.Update.TheVariants.{Store, Touch, Delete, Count, FlushAll}
 use Rattle.mc_reply.specs.Spelling.{answer, is_hidden}
@@ -239,7 +239,7 @@ or_nothing : (test : Bool) → (test || false) ≡ test
 or_nothing true = refl
 or_nothing false = refl
 
-told_by : (s : CacheState) (what : Taken) (moment : ℕ) (refused : Bool) → IsLegalAt s (record { connection = 0; what = what; moment = moment; refused = refused }) → refused ≡ true
+told_by : (s : CacheState) (what : Parsed) (moment : ℕ) (refused : Bool) → IsLegalAt s (record { connection = 0; what = what; moment = moment; refused = refused }) → refused ≡ true
     → answer_after s (record { connection = 0; what = what; moment = moment; refused = refused }) ≡ fault_line OutOfMemory
 told_by s (Faulty fault) moment refused legal is = let never : true ≡ false = sym is ∙ legal.1 in absurd cc
 told_by s (Whole (Get keys exptime with_cas)) moment refused legal is = let never : true ≡ false = sym is ∙ legal.1 ∙ gets_tell_none s exptime with_cas moment refused keys in absurd cc

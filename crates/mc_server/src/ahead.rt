@@ -2,7 +2,7 @@
 
 use crate::first_keys::{AHEAD, FirstKeys};
 use mc_cache::Cache;
-use mc_request::{Asked, MetaCommand, Update};
+use mc_request::{MetaCommand, RequestRef, Update};
 use mc_store::{Hint, Store};
 use mc_text::{WordIter, words};
 
@@ -171,7 +171,7 @@ impl Ahead {
     pub fn look_past<S: Store + Drop>(
         &mut self,
         looked: Looked,
-        asked: &Asked<'_>,
+        asked: &RequestRef<'_>,
         size: usize,
         text: &[u8],
         cache: &Cache<S>,
@@ -257,16 +257,17 @@ fn one_passed(looked: Looked) -> Looked {
 
 /// Returns the keys of a request that has one, except a key in base64: its word is not what is looked up.
 #[inline(always)]
-fn keys_of<'a>(asked: &Asked<'a>) -> Option<WordIter<'a>> {
+fn keys_of<'a>(asked: &RequestRef<'a>) -> Option<WordIter<'a>> {
     match asked {
-        Asked::Get { keys, .. } => Some(keys.again()),
-        Asked::Update { update, .. } => key_of(update),
-        Asked::Meta { form, .. } if form.coded => None,
-        Asked::Meta { command, .. } => match command {
+        RequestRef::Get { keys, .. } => Some(keys.again()),
+        RequestRef::Update { update, .. } => key_of(update),
+        RequestRef::Meta { form, .. } if form.coded => None,
+        RequestRef::Meta { command, .. } => match command {
             MetaCommand::Get { key, .. } => Some(words(key)),
             MetaCommand::Update { update, .. } => key_of(update),
         },
-        Asked::MetaNoop | Asked::Version | Asked::Quit | Asked::Faulty(_) => None,
+        RequestRef::MetaNoop | RequestRef::Version | RequestRef::Quit | RequestRef::Faulty(_) =>
+            None,
     }
 }
 

@@ -8,7 +8,7 @@ ghost use Rattle.mc_request.specs.Parts.{update_seen, meta_said};
 ghost use Rattle.mc_request.specs.WellFormed.{is_well_formed, is_good_request, is_good_meta, is_good_block, is_meta_key, has_meta_key};
 ghost use Rattle.mc_request.specs.declared.parts.Atom.TheVariants.{Get as GetOne, Meta as MetaAtom};
 ghost use Rattle.mc_request.specs.declared.parts.Request.TheVariants.{Get, Meta, Update as AnUpdate};
-ghost use Rattle.mc_request.specs.declared.parts.Taken.TheVariants.{Whole};
+ghost use Rattle.mc_request.specs.declared.parts.Parsed.TheVariants.{Whole};
 ghost use Rattle.mc_request.specs.declared.parts.Update.{Update as AnyUpdate};
 ghost use Rattle.mc_request_reader.specs.Peeks.{set_of};
 ghost use Rattle.mc_reply.specs.Replies.{filled};
@@ -29,7 +29,7 @@ use mc_reply::{
     KEY_ROOM, LINE_ROOM, META_ROOM, Reply, write_end, write_fault, write_key, write_line,
     write_meta, write_noop, write_version,
 };
-use mc_request::{Asked, Hides, MetaCommand, MetaForm, Update, key_bytes};
+use mc_request::{Hides, MetaCommand, MetaForm, RequestRef, Update, key_bytes};
 use mc_request_reader::TakenSet;
 use mc_store::{Hint, Store};
 use mc_text::{CODED_ROOM, VALUE_LIMIT, WordIter};
@@ -46,33 +46,39 @@ pub const NUMBER_ROOM: usize = 20;
 const ROOM_BY_LONGEST: usize = 65_536;
 
 /// Returns enough bytes of room for the answer to a request; [`usize::MAX`] if it may need that or more.
-pub fn room_for<S: Store + Drop>(asked: &Asked<'_>, cache: &Cache<S>) -> usize
+pub fn room_for<S: Store + Drop>(asked: &RequestRef<'_>, cache: &Cache<S>) -> usize
     requires { is_well_formed (asked_of asked.now) ≡ true }
     ensures enough { min (room_of (asked_of asked.now) cache.now) (2 ^ 64 - 1) ≤ result }
     ensures most { result ≤ room_of (asked_of asked.now) cache.now + ROOM_BY_LONGEST }
 {
     match asked {
-        Asked::Get { keys, .. } => room_for_get(keys, cache),
-        Asked::Meta { command, form } => {
+        RequestRef::Get { keys, .. } => room_for_get(keys, cache),
+        RequestRef::Meta { command, form } => {
             META_ROOM.saturating_add(enough_for_value(command, form.coded, cache))
         }
-        Asked::Update { .. } | Asked::MetaNoop | Asked::Version | Asked::Quit | Asked::Faulty(_) =>
-            LINE_ROOM,
+        RequestRef::Update { .. }
+        | RequestRef::MetaNoop
+        | RequestRef::Version
+        | RequestRef::Quit
+        | RequestRef::Faulty(_) => LINE_ROOM,
     }
 }
 
 /// Returns a bound on the answer to a request, as reported to a caller; [`usize::MAX`] if it is that or more.
-pub fn bound_for<S: Store + Drop>(asked: &Asked<'_>, cache: &Cache<S>) -> usize
+pub fn bound_for<S: Store + Drop>(asked: &RequestRef<'_>, cache: &Cache<S>) -> usize
     requires { is_well_formed (asked_of asked.now) ≡ true }
     ensures { result ≡ min (taken_bound (asked_of asked.now) cache.now) (2 ^ 64 - 1) }
 {
     match asked {
-        Asked::Get { keys, .. } => bound_for_get(keys, cache),
-        Asked::Meta { command, form } => {
+        RequestRef::Get { keys, .. } => bound_for_get(keys, cache),
+        RequestRef::Meta { command, form } => {
             COMMAND_BOUND.saturating_add(room_for_value(command, form.coded, cache))
         }
-        Asked::Update { .. } | Asked::MetaNoop | Asked::Version | Asked::Quit | Asked::Faulty(_) =>
-            COMMAND_BOUND,
+        RequestRef::Update { .. }
+        | RequestRef::MetaNoop
+        | RequestRef::Version
+        | RequestRef::Quit
+        | RequestRef::Faulty(_) => COMMAND_BOUND,
     }
 }
 
@@ -172,7 +178,7 @@ fn room_for_keys<S: Store + Drop>(beside: usize, keys: WordIter<'_>, cache: &Cac
 /// stored key. If the answer is not within the limit, or at an error, nothing has changed.
 #[inline]
 pub fn serve_within<S: Store + Drop>(
-    asked: &Asked<'_>,
+    asked: &RequestRef<'_>,
     cache: &mut Cache<S>,
     moment: u64,
     limit: AnswerLimit,
@@ -203,7 +209,7 @@ pub fn serve_within<S: Store + Drop>(
 /// Serves a request at a moment, given hints of the next keys' slots. The cache may take memory to store an item. Beside
 /// that, it takes memory only for the block of a value that is stored under a stored key, and if there is none nothing has changed.
 pub fn serve<S: Store + Drop>(
-    asked: &Asked<'_>,
+    asked: &RequestRef<'_>,
     cache: &mut Cache<S>,
     moment: u64,
     ahead: &mut Ahead,
@@ -220,7 +226,7 @@ pub fn serve<S: Store + Drop>(
 {
     let hides = asked.hides();
     match asked {
-        Asked::Get {
+        RequestRef::Get {
             keys,
             exptime,
             with_cas,
@@ -228,17 +234,17 @@ pub fn serve<S: Store + Drop>(
             let keys = keys.again();
             serve_keys(keys, *exptime, *with_cas, cache, moment, ahead, output);
         }
-        Asked::Update { update, .. } => {
+        RequestRef::Update { update, .. } => {
             serve_update(update, hides, cache, ahead.next(), moment, output)?;
         }
-        Asked::Meta { command, form } => {
+        RequestRef::Meta { command, form } => {
             let hint = ahead.next_for(form.coded);
             serve_meta(command, form, hides, cache, hint, moment, output)?;
         }
-        Asked::MetaNoop => write_noop(output).unwrap(),
-        Asked::Version => write_version(output).unwrap(),
-        Asked::Quit => {}
-        Asked::Faulty(fault) => {
+        RequestRef::MetaNoop => write_noop(output).unwrap(),
+        RequestRef::Version => write_version(output).unwrap(),
+        RequestRef::Quit => {}
+        RequestRef::Faulty(fault) => {
             ahead.refuse();
             write_fault(*fault, output).unwrap();
         }

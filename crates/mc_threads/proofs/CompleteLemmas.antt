@@ -5,8 +5,8 @@ use Rattle.std.proofs.lemmas.Bool.{and_from, and_parts, cases_lt}
 use Rattle.std.proofs.lemmas.Bool.Decides.{nat_tests}
 use Rattle.std.proofs.lemmas.List.Elements.{All-cons, All-head, All-nil, All-tail}
 use Rattle.mc_request.specs.Requests.{requests_of}
-use Rattle.mc_request.specs.declared.parts.Taken.{Taken}
-use Rattle.mc_request.specs.declared.parts.Taken.TheVariants.{Faulty, Whole}
+use Rattle.mc_request.specs.declared.parts.Parsed.{Parsed}
+use Rattle.mc_request.specs.declared.parts.Parsed.TheVariants.{Faulty, Whole}
 use Rattle.mc_request_reader.specs.Reader.{rest_of}
 use Rattle.mc_reply.specs.declared.replies.Reply.{Reply as AReply}
 use Rattle.mc_ring.specs.Rings.{IsRing, RingState}
@@ -60,7 +60,7 @@ over_answered client order text out s h taken answered moved =
     let none : h.incomplete ≡ [] = map_none h.incomplete (sym h.unanswered ∙ none_of s.unanswered answered) in
     let all : entries_of client order ≡ h.done = h.split ∙ ap (λ (es : Order). h.done ++ es) none ∙ append-nil h.done in
     record {
-      asked = sym (append-nil (taken_of client order)) ∙ ap (λ (ts : List Taken). taken_of client order ++ ts) (sym taken) ∙ h.rest [] ∙ ap requests_of (append-nil text);
+      asked = sym (append-nil (taken_of client order)) ∙ ap (λ (ts : List Parsed). taken_of client order ++ ts) (sym taken) ∙ h.rest [] ∙ ap requests_of (append-nil text);
       put = sym (append-nil out) ∙ ap (λ (bytes : List ℕ). out ++ bytes) (sym moved) ∙ h.answered ∙ ap answers_of (sym all);
     }
 
@@ -170,7 +170,7 @@ none_from servers place (c ∷ cs) (x ∷ xs) above inside =
     rw not_here (none_from servers place cs xs above (All-tail (λ (c : Routed). c.server < servers) c cs inside))
 
 -- the commands of a request go to servers of the ring
-taken_inside : (ring : RingState) (what : Taken) → IsRing ring → All (λ (routed : Routed). routed.server < length ring.servers) (route_of_taken ring what)
+taken_inside : (ring : RingState) (what : Parsed) → IsRing ring → All (λ (routed : Routed). routed.server < length ring.servers) (route_of_taken ring what)
 taken_inside ring (Whole request) is_ring = route_inside ring request is_ring
 taken_inside ring (Faulty fault) is_ring = All-nil (λ (routed : Routed). routed.server < length ring.servers)
 

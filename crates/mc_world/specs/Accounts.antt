@@ -2,7 +2,7 @@
 use Rattle.std.specs.Prelude.{ℕ, ◌≡◌, ◌<◌, ◌≤◌, ◌⊎◌, true, false, List, [], ◌∷◌, ◌++◌, map, take, drop, Some, slice_get, All}
 use Rattle.std.specs.List.{list_all}
 use Rattle.mc_request.specs.declared.parts.Atom.{Atom}
-use Rattle.mc_request.specs.declared.parts.Taken.{Taken}
+use Rattle.mc_request.specs.declared.parts.Parsed.{Parsed}
 use Rattle.mc_request.specs.Requests.{requests_of}
 use Rattle.mc_reply.specs.declared.replies.Reply.{Reply as AReply}
 use Rattle.mc_reply.specs.Spelling.{spelling_of}
@@ -61,7 +61,7 @@ answers_by losses (e ∷ es) = answer_by losses e.what e.outcomes ++ answers_by 
 pub record Accounts (losses : Losses) (ring : RingState) (opening : CacheState) (order : Order) (texts outs : ℕ → List ℕ) (histories : ℕ → List Entry) (log : Log) : Type 0 where
   -- each client's requests were taken in order, by the turns of the log in theirs, and routed by the ring of that moment; each of their
   -- commands has its outcome
-  pub asked : (client : ℕ) → (untaken : List Taken) × (taken_of client order ++ untaken ≡ requests_of (texts client))
+  pub asked : (client : ℕ) → (untaken : List Parsed) × (taken_of client order ++ untaken ≡ requests_of (texts client))
   pub turns : map (λ (e : TakenRequest). e.session) order ≡ turns_of log
   pub numbered : (client : ℕ) → AreInOrder (entries_of client order)
   pub rings : (client request : ℕ) (e : TakenRequest) → asked_at order client request ≡ Some e → IsRingAfter ring (before (takes client) request log) e.ring
@@ -97,7 +97,7 @@ Account losses ring opening texts outs histories log = (order : Order) × Accoun
 -- The entries of each server since its life began are legal, and all its entries are of commands to it. No command has two entries in all
 -- histories.
 pub record AccountsForCommands (opening : CacheState) (order : Order) (texts : ℕ → List ℕ) (histories : ℕ → List Entry) (begun : ℕ → ℕ) : Type 0 where
-  pub asked : (client : ℕ) → (untaken : List Taken) × (taken_of client order ++ untaken ≡ requests_of (texts client))
+  pub asked : (client : ℕ) → (untaken : List Parsed) × (taken_of client order ++ untaken ≡ requests_of (texts client))
   pub sized : All IsSized order
   pub legal : (place : ℕ) → IsLegal order place opening (drop (begun place) (histories place))
   pub named : (place k : ℕ) (e : Entry) → slice_get (histories place) k ≡ Some e → (atom : Atom (List ℕ)) × (command_at order (tag_in e) ≡ Some (to_place place atom))

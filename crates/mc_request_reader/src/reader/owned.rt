@@ -5,7 +5,7 @@ ghost use Rattle.mc_request_reader.specs.Peeks.{Gives};
 
 use super::{Next, Reader};
 use crate::peeks::Peek;
-use mc_request::{ReadError, Taken};
+use mc_request::{Parsed, ReadError};
 
 impl Reader {
     /// Consumes and returns the first request or fault that has arrived whole: its keys and its block are copied.
@@ -21,8 +21,8 @@ impl Reader {
                 let taken = asked.taken(self.alloc)?;
                 self.consume(front);
                 Ok(match taken {
-                    Taken::Whole(request) => Next::Request(request),
-                    Taken::Faulty(fault) => Next::Fault(fault),
+                    Parsed::Whole(request) => Next::Request(request),
+                    Parsed::Faulty(fault) => Next::Fault(fault),
                 })
             }
             Peek::More => Ok(Next::More),

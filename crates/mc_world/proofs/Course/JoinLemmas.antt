@@ -5,8 +5,8 @@ use Rattle.std.proofs.lemmas.Bool.{cases_lt}
 use Rattle.std.proofs.lemmas.List.{get_or_append_left, get_or_push, length_push}
 use Rattle.std.proofs.lemmas.List.Elements.{All-head, All-nil, All-tail}
 use Rattle.std.proofs.lemmas.Option.{none-some}
-use Rattle.mc_request.specs.declared.parts.Taken.{Taken}
-use Rattle.mc_request.specs.declared.parts.Taken.TheVariants.{Faulty, Whole}
+use Rattle.mc_request.specs.declared.parts.Parsed.{Parsed}
+use Rattle.mc_request.specs.declared.parts.Parsed.TheVariants.{Faulty, Whole}
 use Rattle.mc_ring.specs.Rings.{IsRing, RingState}
 use Rattle.mc_route.specs.Routes.{route_of_taken, to_place}
 use Rattle.mc_route.specs.declared.routes.Routed.{Routed}
@@ -59,7 +59,7 @@ none_from few place session request at (command ∷ commands) le h =
     (other_number command.server place (λ same. omega (arith, first, le, same)))
     ∙ none_from few place session request (suc at) commands le (All-tail (λ (routed : Routed). routed.server < few) command commands h)
 
-taken_inside : (ring : RingState) (what : Taken) → IsRing ring → All (λ (routed : Routed). routed.server < length ring.servers) (route_of_taken ring what)
+taken_inside : (ring : RingState) (what : Parsed) → IsRing ring → All (λ (routed : Routed). routed.server < length ring.servers) (route_of_taken ring what)
 taken_inside ring (Whole request) good = route_inside ring request good
 taken_inside ring (Faulty fault) good = All-nil (λ (routed : Routed). routed.server < length ring.servers)
 

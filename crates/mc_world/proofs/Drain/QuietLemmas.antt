@@ -6,7 +6,7 @@ use Rattle.std.proofs.lemmas.Bool.{lt-ltb}
 use Rattle.std.proofs.lemmas.List.Sums.{position_or_len_is}
 use Rattle.std.proofs.lemmas.List.{length-map}
 use Rattle.mc_request.specs.Requests.{requests_of}
-use Rattle.mc_request.specs.declared.parts.Taken.{Taken}
+use Rattle.mc_request.specs.declared.parts.Parsed.{Parsed}
 use Rattle.mc_reply.specs.declared.replies.Reply.{Reply as AReply}
 use Rattle.mc_ring.specs.Rings.{IsRing, RingState}
 use Rattle.mc_route.specs.declared.outcomes.Outcome.{Outcome}
@@ -135,9 +135,9 @@ session_quiet ring opening c h stuck few client session at =
     let untaken = untaken_none c.pool.proxy.ring c.pool.proxy.links session no_unanswered no_output (omega (arith, counted, numbered, below))
     (λ place. (link_quiet ring opening c h stuck place).output) (λ ready. stuck (ProxyTurn client) refl (session, at, ready)) in
     let whole : taken_of client h.order ≡ requests_of (text_of c client) =
-    sym (append-nil (taken_of client h.order)) ∙ ap (λ (ts : List Taken). taken_of client h.order ++ ts) (sym untaken) ∙ s.rest [] ∙ ap (λ (bytes : List ℕ). requests_of bytes) (append-nil (text_of c client)) in
+    sym (append-nil (taken_of client h.order)) ∙ ap (λ (ts : List Parsed). taken_of client h.order ++ ts) (sym untaken) ∙ s.rest [] ∙ ap (λ (bytes : List ℕ). requests_of bytes) (append-nil (text_of c client)) in
     let size : length (taken_of client h.order) ≡ length (entries_of client h.order) = length-map (entries_of client h.order) (λ (e : TakenRequest). e.what) in
-    let all : length (taken_of client h.order) ≡ length (requests_of (text_of c client)) = ap (λ (ts : List Taken). length ts) whole in
+    let all : length (taken_of client h.order) ≡ length (requests_of (text_of c client)) = ap (λ (ts : List Parsed). length ts) whole in
     record { output = no_output; answered = omega (arith, put, zero_left, numbered, size, all) }
 
 -- each end of a lost generation was seen

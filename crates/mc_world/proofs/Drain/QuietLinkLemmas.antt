@@ -2,7 +2,7 @@
 use Rattle.std.proofs.Common.{◌≡◌, ◌∙◌, ℕ, zero, suc, ◌+◌, ◌<◌, true, List, [], ◌∷◌, ◌++◌, length, map, drop, Some, slice_get, refl, sym, ap, subst, append-nil, arith}
 use Rattle.std.proofs.lemmas.List.{length-append, length-drop, length-map}
 use Rattle.mc_request.specs.Atoms.{head_of}
-use Rattle.mc_request.specs.declared.parts.Taken.{Taken}
+use Rattle.mc_request.specs.declared.parts.Parsed.{Parsed}
 use Rattle.mc_request_reader.specs.Reader.{rest_of}
 use Rattle.mc_request.specs.Requests.{requests_of}
 use Rattle.mc_reply.specs.declared.replies.Reply.{Reply as AReply}
@@ -61,7 +61,7 @@ living_none place order lane link opening site up h holds no_output no_coming un
     let both : length (replies_on site.connection h.made) ≡ length (commands_on site.connection h.made) =
     length-map (made_on site.connection h.made) (λ (m : Made). m.reply) ∙ sym (length-map (made_on site.connection h.made) (λ (m : Made). m.command)) in
     let read : length (rest_of living.end.reader []) ≡ length (map read_as living.others ++ requests_of []) =
-    ap (λ (bytes : List ℕ). length (rest_of living.end.reader bytes)) (sym (append-nil link.output ∙ no_output)) ∙ ap (λ (ts : List Taken). length ts) (carries.reads []) in
+    ap (λ (bytes : List ℕ). length (rest_of living.end.reader bytes)) (sym (append-nil link.output ∙ no_output)) ∙ ap (λ (ts : List Parsed). length ts) (carries.reads []) in
     let unread_none : 0 < length (rest_of living.end.reader []) → ⊥ = λ some. unserved (subst (λ (o : _). 0 < length (waiting_of o)) (sym living.is_open) some) in
     let no_others : length living.others ≡ 0 = (elim (rest_of living.end.reader []) as (λ rest. length rest ≡ length (map read_as living.others ++ requests_of []) → (0 < length rest → ⊥) → length living.others ≡ 0) [
       | [] ↦ λ e none. omega (arith, e, length-append (map read_as living.others) (requests_of []), length-map living.others read_as)

@@ -6,7 +6,7 @@ use Rattle.std.proofs.lemmas.Bool.{and_from, and_parts, eqb-true, lt-ltb, ltb-tr
 use Rattle.std.proofs.lemmas.List.{drop_min, take_min}
 use Rattle.std.proofs.lemmas.List.Quantifiers.{position-Some}
 use Rattle.std.proofs.lemmas.Option.{none-some, same_Some, slice_get-get_or}
-use Rattle.mc_request.specs.declared.parts.Taken.{Taken}
+use Rattle.mc_request.specs.declared.parts.Parsed.{Parsed}
 use Rattle.mc_request_reader.specs.Reader.{ReaderState, rest_from, rest_of}
 use Rattle.mc_reply.specs.declared.replies.Reply.{Reply as AReply}
 use Rattle.mc_codec.proofs.HeadLemmas.{begun_is_not_whole}
@@ -87,7 +87,7 @@ not_ready number turns.Waiting old new differ h session at ready =
     let what : h.step.0.what ≡ ready.what = cc in
     let clash : true ≡ false =
     sym h.step.0.marked ∙ ap (λ (s : SessionState). is_marked s old.links (route_of_taken old.ring h.step.0.what)) same
-    ∙ ap (λ (w : Taken). is_marked session old.links (route_of_taken old.ring w)) what ∙ ready.unmarked in
+    ∙ ap (λ (w : Parsed). is_marked session old.links (route_of_taken old.ring w)) what ∙ ready.unmarked in
     absurd cc
 not_ready number turns.Closing old new differ h session at ready =
     let same : h.before ≡ session = same_Some h.before session (sym h.was ∙ at) in

@@ -6,7 +6,7 @@ use Rattle.std.proofs.lemmas.Bool.{and_parts}
 use Rattle.std.proofs.lemmas.List.{map-append}
 use Rattle.std.proofs.lemmas.Option.{none-some, same_Some}
 use Rattle.mc_request.specs.Requests.{requests_of}
-use Rattle.mc_request.specs.declared.parts.Taken.{Taken}
+use Rattle.mc_request.specs.declared.parts.Parsed.{Parsed}
 use Rattle.mc_request_reader.specs.Reader.{rest_of}
 use Rattle.mc_reply.specs.CanHave.{can_have}
 use Rattle.mc_link.specs.LinkState.{LinkState}
@@ -167,7 +167,7 @@ site_late_turned place order lane link opening site server moment i way tag tags
     let entry_is : entry_by tag moment steps.step.1.served.0 reply ≡ entry_of m = ap₂ (λ (t : Tag) (bytes : List ℕ). entry_by t moment steps.step.1.served.0 bytes) tag_is reply_is in
     let all_is : (h.past ++ h.made) ++ m ∷ [] ≡ h.past ++ (h.made ++ m ∷ []) = append_assoc h.past h.made (m ∷ []) in
     let taking : map taking_of h.made ++ entry_taken steps ∷ [] ≡ map taking_of (h.made ++ m ∷ []) =
-    ap (λ (what : Taken). map taking_of h.made ++ (taking_by way.connection what moment steps.step.1.served.0) ∷ []) next.what_is ∙ sym (map-append taking_of h.made (m ∷ [])) in
+    ap (λ (what : Parsed). map taking_of h.made ++ (taking_by way.connection what moment steps.step.1.served.0) ∷ []) next.what_is ∙ sym (map-append taking_of h.made (m ∷ [])) in
     let now_open : connection_at server way.connection ≡ Some steps.after =
     ap (λ (cs : List (ℕ × ConnectionState)). connection_at (record server { connections = cs }) way.connection) steps.is ∙ updated_own way.connection steps.before steps.after site.server.connections steps.was in
     let whole : commands_on way.connection h.made ++ own.others ≡ commands_on way.connection (h.made ++ m ∷ []) ++ next.past =

@@ -4,7 +4,7 @@ use Rattle.std.specs.List.{list_all}
 use Rattle.std.proofs.lemmas.Bool.{and_parts}
 use Rattle.std.proofs.lemmas.List.{append_cancel_left, drop-map, length-append, length-map, map-append, take-append-drop}
 use Rattle.mc_request.specs.Requests.{requests_of, requests_within}
-use Rattle.mc_request.specs.declared.parts.Taken.{Taken}
+use Rattle.mc_request.specs.declared.parts.Parsed.{Parsed}
 use Rattle.mc_request_reader.specs.Reader.{rest_of}
 use Rattle.mc_reply.specs.CanHave.{can_have}
 use Rattle.mc_reply.specs.Spelling.{spelling_of}
@@ -106,7 +106,7 @@ pub lost_untouched : (place : ℕ) (order : Order) (made : List Made) (m : Made)
 lost_untouched place order made m texts old new way differ is h = grind (arith, commands_push_other)
 
 -- a connection that reads these commands takes the first of them
-pub record IsNext (others : List Tagged) (what : Taken) : Type 0 where
+pub record IsNext (others : List Tagged) (what : Parsed) : Type 0 where
   pub command : Tagged
   pub past : List Tagged
   pub is : others ≡ command ∷ past
@@ -116,7 +116,7 @@ no_requests : requests_of [] ≡ []
 unfolding requests_of requests_within
 no_requests = refl
 
-pub next_is : (others : List Tagged) (what : Taken) (more : List Taken) → map read_as others ++ requests_of [] ≡ what ∷ more → IsNext others what
+pub next_is : (others : List Tagged) (what : Parsed) (more : List Parsed) → map read_as others ++ requests_of [] ≡ what ∷ more → IsNext others what
 next_is [] what more e = let clash : [] ≡ what ∷ more = sym no_requests ∙ e in absurd cc
 next_is (c ∷ cs) what more e = let first : read_as c ≡ what = cc in record { command = c; past = cs; is = refl; what_is = sym first }
 
@@ -142,7 +142,7 @@ pub joined : (place : ℕ) (order : Order) (lane : Lane) (link : LinkState) (ope
 joined place order lane link opening site up h holds = grind (arith, good_since, stood_at)
 
 -- the command that a server takes next
-pub record TakesNext (place : ℕ) (order : Order) (passed : Lane) (site : SiteState) (all : List Made) (others : List Tagged) (what : Taken) : Type 0 where
+pub record TakesNext (place : ℕ) (order : Order) (passed : Lane) (site : SiteState) (all : List Made) (others : List Tagged) (what : Parsed) : Type 0 where
   pub next : IsNext others what
   pub good : is_good next.command ≡ true
 
@@ -182,7 +182,7 @@ made_of site all opening command moment refused = record {
   reply = (step_of (cache_of opening all) command.0 moment refused).1;
 }
 
-abbrev pub taking_by : ℕ → Taken → ℕ → Bool → ServedRequest
+abbrev pub taking_by : ℕ → Parsed → ℕ → Bool → ServedRequest
 taking_by connection what moment refused = record { connection = connection; what = what; moment = moment; refused = refused }
 
 -- a turn of a connection makes the command that it takes
@@ -193,7 +193,7 @@ pub is_made : (site : SiteState) (server : ServerState) (moment : ℕ) (opening 
 is_made site server moment opening all command steps what_is cache_is good can = grind (arith, one_tells, cache_of, commands_made)
 
 -- such a turn leaves a good cache good
-pub still_good : (s t : CacheState) (m : Made) (what : Taken) → what ≡ read_as m.command → t ≡ cache_after s (taking_by m.connection what m.moment m.refused)
+pub still_good : (s t : CacheState) (m : Made) (what : Parsed) → what ≡ read_as m.command → t ≡ cache_after s (taking_by m.connection what m.moment m.refused)
     → is_good m.command ≡ true → m.moment < 2 ^ 63 → IsGoodCache s → IsGoodCache t
 still_good s t m what what_is is good below h = grind (arith, stays_good, cache_made)
 
@@ -208,7 +208,7 @@ appended site server moment opening all command reply steps what_is cache_is mad
     append_cancel_left steps.before.output reply (spelling_of command.0 (step_of (cache_of opening all) command.0 moment steps.step.1.served.0).1)
     (sym more ∙ steps.step.1.served.1.answered
     ∙ ap (λ (bytes : List ℕ). steps.before.output ++ bytes)
-    (ap (λ (what : Taken). answer_after site.server.cache (record { connection = site.connection; what = what; moment = moment; refused = steps.step.1.served.0 })) what_is
+    (ap (λ (what : Parsed). answer_after site.server.cache (record { connection = site.connection; what = what; moment = moment; refused = steps.step.1.served.0 })) what_is
     ∙ ap (λ (s : CacheState). answer_after s (taking_of (made_of site all opening command moment steps.step.1.served.0))) cache_is
     ∙ answer_made (cache_of opening all) (made_of site all opening command moment steps.step.1.served.0) made
     ∙ spelled_by_head command.0 (step_of (cache_of opening all) command.0 moment steps.step.1.served.0).1))
@@ -285,7 +285,7 @@ site_turned place order lane link opening site server moment tag reply up steps 
     ap₂ (λ (t : Tag) (bytes : List ℕ). entry_by t moment steps.step.1.served.0 bytes) tag_is reply_is in
     let all_is : (h.past ++ h.made) ++ m ∷ [] ≡ h.past ++ (h.made ++ m ∷ []) = append_assoc h.past h.made (m ∷ []) in
     let taking : map taking_of h.made ++ entry_taken steps ∷ [] ≡ map taking_of (h.made ++ m ∷ []) =
-    ap (λ (what : Taken). map taking_of h.made ++ (taking_by site.connection what moment steps.step.1.served.0) ∷ []) takes.next.what_is ∙ sym (map-append taking_of h.made (m ∷ [])) in
+    ap (λ (what : Parsed). map taking_of h.made ++ (taking_by site.connection what moment steps.step.1.served.0) ∷ []) takes.next.what_is ∙ sym (map-append taking_of h.made (m ∷ [])) in
     record {
       past = h.past;
       made = h.made ++ m ∷ [];
