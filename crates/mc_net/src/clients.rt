@@ -3,6 +3,7 @@ ghost use Rattle.std.specs.Prelude.{◌≡◌, ◌-◌, ◌<◌, ◌^◌, IfOk, 
 ghost use Rattle.mc_net.specs.Lists.{all_shown, count_after, known_of, place_of, shown_of};
 
 use crate::acceptors::Backlog;
+use crate::after_pumps::AfterPump;
 use crate::conns::{Known, LIST_LEN, Listed, Owed, conn_of};
 use crate::first_lines::FirstLine;
 use crate::handlers::{Client, Handler};
@@ -10,7 +11,6 @@ use crate::inputs::Readiness;
 use crate::limits::KEPT_ROOM;
 use crate::openings::{Opening, Stranger};
 use crate::reports::Report;
-use crate::steps::AfterPump;
 use crate::strangers::{Refusal, opening};
 use mc_program::{EprintSeldom, OncePerSecond, Said, Ticker, earlier};
 use mc_stream::IoStats;

@@ -3,7 +3,7 @@ ghost use Rattle.std.specs.Prelude.{◌≡◌, ◌≢◌, ◌++◌, None, take, 
 ghost use Rattle.std.specs.Io.{ReadsAtMost};
 ghost use Rattle.std.specs.Io.KnownBytes.{ReadConsumes};
 ghost use Rattle.mc_net.specs.FirstLines.{first_line_says};
-ghost use Rattle.mc_net.specs.Places.{SaysTheSame, kept_text};
+ghost use Rattle.mc_net.specs.WordStarts.{SaysTheSame, kept_text};
 
 use crate::first_lines::FirstLine;
 use crate::inputs::{Input, Readiness};

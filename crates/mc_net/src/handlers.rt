@@ -1,9 +1,9 @@
 //! A client, and its handler.
 ghost use Rattle.std.specs.Prelude.{◌≡◌, ◌<◌, ◌^◌};
 
+use crate::after_pumps::AfterPump;
 use crate::first_lines::FirstLine;
 use crate::inputs::Readiness;
-use crate::steps::AfterPump;
 use mc_stream::IoStats;
 use mio::net::TcpStream;
 

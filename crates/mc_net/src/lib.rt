@@ -69,6 +69,7 @@
 #![tactic(auto)]
 
 mod acceptors;
+mod after_pumps;
 mod binding;
 mod budgets;
 mod clients;
@@ -85,19 +86,19 @@ mod limits;
 mod openings;
 mod operator_slots;
 mod operators;
-mod places;
 mod processes;
 mod reports;
 mod resets;
 mod rooms;
 mod rounds;
 mod spaces;
-mod steps;
 mod stopwatches;
 mod stranger_laws;
 mod strangers;
+mod word_starts;
 
 pub use acceptors::{Acceptor, Backlog};
+pub use after_pumps::{AfterPump, step_after};
 pub use binding::{bind, first_address, spelled_address};
 pub use budgets::STEPS;
 pub use clients::Clients;
@@ -116,7 +117,6 @@ pub use reports::Report;
 pub use resets::reset;
 pub use rooms::Room;
 pub use rounds::{LoopHandler, poll_timeout, serve_rounds};
-pub use steps::{AfterPump, step_after};
 pub use stopwatches::Stopwatch;
 pub use stranger_laws::{
     commands_are_text, first_lines_of_strangers, first_lines_of_text, first_lines_stay,

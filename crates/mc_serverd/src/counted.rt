@@ -1,7 +1,7 @@
 //! A store that counts its operations.
 ghost use Rattle.std.specs.Prelude.{◌≡◌};
 
-use crate::counts::StoreStats;
+use crate::store_stats::StoreStats;
 use mc_item::{Body, Deadline};
 use mc_store::{Hint, Store};
 use mc_text::Key;

@@ -3,9 +3,9 @@ ghost use Rattle.std.specs.Prelude.{◌≡◌, ◌<◌, ◌^◌, None, IsSome, l
 ghost use Rattle.mc_server.specs.ServerState.{connection_at};
 ghost use Rattle.mc_pump.specs.Pumps.{Pumps};
 
-use crate::counts::StoreStats;
 use crate::options::PROGRAM;
 use crate::sides::{Received, Sent};
+use crate::store_stats::StoreStats;
 use mc_net::{AfterPump, Client, Handler, PIECE_LEN, guarded, step_after};
 use mc_program::{EprintSeldom, OncePerSecond, Said};
 use mc_pump::{Pumped, Watch, pump_gathering};

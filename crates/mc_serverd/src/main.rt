@@ -24,22 +24,21 @@ mod cas_from;
 mod chosen;
 mod clocks;
 mod counted;
-mod counts;
 mod figures;
 mod groups;
 mod handlers;
-mod hosts;
 mod items;
 mod kinds;
 mod memory;
 mod options;
 mod refusals;
+mod server_loops;
 mod serving;
 mod settings;
 mod sides;
+mod store_stats;
 
 use clocks::SystemSeconds;
-use hosts::other_files;
 use mc_net::{Operators, bind};
 use mc_program::{
     EprintSeldom, Failure, LogOption, LoggingRuntime, ServeError, exit_status, is_read,
@@ -48,6 +47,7 @@ use mc_program::{
 use mc_server::MAX_CONNECTIONS;
 use memory::tell_memory;
 use options::{Options, PROGRAM, command};
+use server_loops::other_files;
 use serving::serve;
 use std::alloc::Global;
 use std::fs::Files;

@@ -8,13 +8,13 @@
 #![tactic(auto)]
 
 mod gathers;
+mod io_stats;
 mod limits;
 mod outcomes;
 mod sides;
-mod tallies;
 
 pub use gathers::{Gather, NoWriter};
+pub use io_stats::IoStats;
 pub use limits::MAX_ROUNDS;
 pub use outcomes::Pumped;
 pub use sides::{read_once, read_result, write_once};
-pub use tallies::IoStats;

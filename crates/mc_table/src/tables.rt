@@ -7,9 +7,9 @@ ghost use Rattle.std.specs.Map.Iter.{deref_pair};
 ghost use Rattle.mc_table.specs.Places.{left_out};
 ghost use Rattle.mc_table.specs.Tables.{in_order, promoted, put_entry, IsTable};
 
-use crate::chained::HashIndex;
+use crate::hash_indexes::HashIndex;
 use crate::hints::Hint;
-use crate::orders::LruList;
+use crate::lru_lists::LruList;
 use std::alloc::{AllocError, AllocFailed, Global};
 use std::collections::hash_map::Equivalent;
 use std::hash::{BuildHasher, Hash};
