@@ -1,6 +1,6 @@
 //! Requests: what one line of a client asks for, with its data block.
 //!
-//! [`command_line`] reads a line, whose words it borrows. It returns an [`RequestRef`], a [`PendingStore`] that a data block follows, or a fault
+//! [`command_line`] reads a line, whose words it borrows. It returns a [`RequestRef`], a [`PendingStore`] that a data block follows, or a fault
 //! whose data block is swallowed. [`announced_in`] returns only the length of a line's data block. [`RequestRef::taken`] copies the borrowed
 //! bytes into a [`Request`] or fault of its own. A borrowed meta command has its key as a word, plain or in base64 ([`key_bytes`],
 //! [`Update::said`]), and its flag words as they are in the line ([`MetaForm`]). [`flag_of`] returns the flag of a letter.
