@@ -137,8 +137,8 @@ def part_refused(keys, count):
     return flow(b"".join(next(before) + b"md %s !\n" % key for key in keys), (count + 1) * len(keys))
 
 
-def guesses_one_off():
-    """As many sets as a look takes, and after the first a refused line that has no guess: each of the others gets another one's."""
+def hints_one_off():
+    """As many sets as a look takes, and after the first a refused line that has no hint: each of the others gets another one's."""
     rounds = [[first, b"mg YQ== b !\n", *others] for first, *others in (sets()[at : at + 32] for at in range(0, 96, 32))]
     return flow(b"".join(itertools.chain(*rounds)), sum(map(len, rounds)))
 
@@ -279,7 +279,7 @@ STREAMS = [
            lambda: part_refused(COLD[:600], 7), False),
     Stream("set-quarter-refused", "set", "a quarter of a look's keys for refusals", lambda: part_refused(LONG, 3), False),
     Stream("set-quarter-cold", "set", "the same, with items that are fetched for them", lambda: part_refused(COLD[:1_300], 3), False),
-    Stream("set-one-off", "set", "guesses that are another key's", guesses_one_off, False),
+    Stream("set-one-off", "set", "hints that are another key's", hints_one_off, False),
     Stream("good-gets-long", "get", "a long line that is read ahead and refused", lambda: flow_of(GET + GETS_LONG, requests=2), False),
     # Data blocks.
     Stream("block-of-gets", "set-1000", "a block that is taken for commands", lambda: puts(filled_with(get(*ABSENT[:4]), 1_000))),

@@ -34,7 +34,7 @@ MOST_EMPTY_WORDS = 64
 FEW_KEYS = 3  # fewer are not hashed
 SHORT_TEXT = 64  # with fewer bytes there is no look
 PASSES = 4  # requests at which no look begins after one that gained little; twice as many after each such look that follows it
-VAIN_PASSES, VAIN_BYTES = 4, 128  # at so many more for a line that is refused while a guess is left, and one more for so many bytes
+VAIN_PASSES, VAIN_BYTES = 4, 128  # at so many more for a line that is refused while a hint is left, and one more for so many bytes
 KEYS_TO_ONE_REFUSED = 8  # once such lines are more than one to this many keys of a look
 MOST_FLAGS = 64  # bytes in which a meta command's flag for base64 is looked for
 MOST_PASSES = 64  # at most at this many
@@ -82,7 +82,7 @@ def is_held(key):
 
 
 def is_coded(line):
-    """Whether the key of a meta command's line is in base64: its word is not the key that is looked up, and has no guess."""
+    """Whether the key of a meta command's line is in base64: its word is not the key that is looked up, and has no hint."""
     name, *words = line.split()
     return name in META and b"b" in words[1:]
 
@@ -154,13 +154,13 @@ class Seen(NamedTuple):
 
 class Kept(NamedTuple):
     """The state that the last look leaves: how many of the bytes in front it has read, at how many requests then none begins, at how
-    many none began after the last that gained little, for how many keys there are guesses, and how many of its lines may yet be refused
+    many none began after the last that gained little, for how many keys there are hints, and how many of its lines may yet be refused
     free."""
 
     bytes: int = 0
     passes: int = 0
     pause: int = 0
-    guesses: int = 0
+    hints: int = 0
     spare: int = 0
 
 
@@ -179,10 +179,10 @@ class Look:
     @staticmethod
     def begins(front, last):
         """Whether a look begins at a request, by the state that the last one left."""
-        return last.bytes == 0 and last.passes == 0 and Look.has_guess(front)
+        return last.bytes == 0 and last.passes == 0 and Look.has_hint(front)
 
     @staticmethod
-    def has_guess(front):
+    def has_hint(front):
         return front.keys and not front.is_faulty and not front.is_coded
 
     @staticmethod
@@ -195,13 +195,13 @@ class Look:
     @staticmethod
     def after(last, front, size):
         """The state once a request was served."""
-        if front.is_faulty and last.guesses:
+        if front.is_faulty and last.hints:
             more = 0 if last.spare else VAIN_PASSES + size // VAIN_BYTES
             passes = min(MOST_PASSES, last.passes + more)
-            return Kept(max(0, last.bytes - size), passes, last.pause, last.guesses - 1, max(0, last.spare - 1))
-        passes = last.passes if last.bytes or not Look.has_guess(front) else max(0, last.passes - 1)
-        used = len(front.keys) if Look.has_guess(front) else 0
-        return Kept(max(0, last.bytes - size), passes, last.pause, max(0, last.guesses - used), last.spare)
+            return Kept(max(0, last.bytes - size), passes, last.pause, last.hints - 1, max(0, last.spare - 1))
+        passes = last.passes if last.bytes or not Look.has_hint(front) else max(0, last.passes - 1)
+        used = len(front.keys) if Look.has_hint(front) else 0
+        return Kept(max(0, last.bytes - size), passes, last.pause, max(0, last.hints - used), last.spare)
 
     @classmethod
     def seen(cls, text, front, at, limit):
@@ -317,22 +317,22 @@ class Look:
 
 
 class LookBefore(Look):
-    """The look of commit 68ef589: from any request or fault on, if no guess is left, at words between single bytes, which may be empty."""
+    """The look of commit 68ef589: from any request or fault on, if no hint is left, at words between single bytes, which may be empty."""
 
     def __init__(self, text, front, at, limit):
         super().__init__(text, Front(at, (), False), at, limit)
 
     @staticmethod
     def begins(_, last):
-        return last.guesses == 0
+        return last.hints == 0
 
     @staticmethod
     def kept(seen, _at, _last, _there):
-        return Kept(guesses=len(seen.keys))
+        return Kept(hints=len(seen.keys))
 
     @staticmethod
     def after(last, front, size):
-        return Kept(guesses=max(0, last.guesses - (1 if front.is_faulty else len(front.keys))))
+        return Kept(hints=max(0, last.hints - (1 if front.is_faulty else len(front.keys))))
 
     def goes_on(self, front):
         return self.lines == 0 or self.lines < MOST_LINES and 0 < len(self.keys) < MOST_KEYS

@@ -1,7 +1,7 @@
 #!/usr/bin/env python3
 """Tries shorter proofs of a crate's lemmas, and writes those that the prover takes.
 
-Usage: shorter.py CRATE [FILE ..]      (FILE: the name of a lemma file, as RingLemmas; all of the crate's, if none is named)
+Usage: shorter.py CRATE [FILE ..]      (FILE: a lemma file, as RingLemmas or Log/TurnLemmas; all of the crate's, if none is named)
 
 The crate is proved before (`prove.py CRATE`). For each clause of a lemma that has lines to lose it tries these bodies:
 
@@ -164,14 +164,16 @@ class Copy:
         self.answers = self.folder / "proofs" / PROBE / "Answers.antt"
         self.answers.parent.mkdir()
         self.crate = crate
+        self.lemmas = prove.TOP / "crates" / crate / "proofs"
 
     def refused(self, path, text):
         """The lines of a lemma file that a check refuses, and whether it could read the file to its end."""
-        self.answers.write_text(f"use Rattle.{self.crate}.proofs.{path.stem}\n")
-        (self.folder / "proofs" / path.name).write_text(text)
+        within = path.relative_to(self.lemmas)
+        self.answers.write_text(f"use Rattle.{self.crate}.proofs.{'.'.join(within.with_suffix('').parts)}\n")
+        (self.folder / "proofs" / within).write_text(text)
         words = ["rt", "check", "--only", PROBE]
         said = subprocess.run(words, cwd=self.folder, stdout=subprocess.PIPE, stderr=subprocess.STDOUT, text=True).stdout
-        lines = {int(it) for it in re.findall(rf"^\./proofs/{re.escape(path.name)}:(\d+):\d+: error", said, re.MULTILINE)}
+        lines = {int(it) for it in re.findall(rf"^\./proofs/{re.escape(str(within))}:(\d+):\d+: error", said, re.MULTILINE)}
         is_read = f"{PROBE}: proved" in said
         if not lines and not is_read:
             raise SystemExit(said)
@@ -214,13 +216,19 @@ def shortened(copy, path):
     return before.count("\n") - after.count("\n")
 
 
+def lemma_files(proofs):
+    """A crate's lemma files; a folder of them has a list beside it."""
+    paths = [*proofs.glob("*.antt"), *proofs.glob("[A-Z]*/*.antt")]
+    return sorted(it for it in paths if it.stem != "Lib" and not it.with_suffix("").is_dir())
+
+
 def main():
     words = argparse.ArgumentParser(description=__doc__, formatter_class=argparse.RawDescriptionHelpFormatter)
     words.add_argument("crate", metavar="CRATE")
     words.add_argument("files", metavar="FILE", nargs="*")
     asked = words.parse_args()
     proofs = prove.TOP / "crates" / asked.crate / "proofs"
-    paths = [proofs / f"{name}.antt" for name in asked.files] or sorted(it for it in proofs.glob("*.antt") if it.stem != "Lib")
+    paths = [proofs / f"{name}.antt" for name in asked.files] or lemma_files(proofs)
     fewer = 0
     with tempfile.TemporaryDirectory(dir=prove.TOP / ".git") as room:
         copy = Copy(asked.crate, prove.copied(asked.crate, pathlib.Path(room)))

@@ -3,14 +3,14 @@
 
 Usage: looks.py PROGRAM [SEED ..]      (crates/mc_serverd/out/mc_serverd; seeds 1 and 2)
 
-With 32,768 items or more a server guesses the slots of a pipeline's next keys, before it serves their requests. With `--store lru` it
+With 32,768 items or more a server has hints of the slots of a pipeline's next keys, before it serves their requests. With `--store lru` it
 never does. The program is started with each store, for 40,000 items, and both receive the same bytes:
 
 - a seed plays 750 pipelines of 1 to 60 requests, whole and in pieces, to servers that evict. A fifth of the requests (junk.py) are made
   wrong: more spaces, too many words, bad lengths, blocks of another length, control bytes, long keys, other line ends. Blocks look like
   requests. One flush is at a random place. At the end too long blocks are refused, and each item is shown with its number;
 - a client sends requests of one look, of which the first delete, replace or evict items, and the others ask for these. For all of them the
-  server has guessed before it serves the first.
+  server has prefetched before it serves the first.
 
 The seconds of two servers begin at different times. So no item dies while they run: an exptime is none, past, or in the year 2096, and no
 reply shows how long an item has left.
@@ -225,7 +225,7 @@ def pipelines_are_answered_alike(program, seed):
             raise Wrong(f"{held} items are there at the end")
 
 
-def a_change_behind_a_guess(program, line, block, done):
+def a_change_behind_a_hint(program, line, block, done):
     """The first requests of a look change items, and the others ask for them."""
     with contextlib.ExitStack() as stack:
         both = Both(stack, program)
@@ -235,7 +235,7 @@ def a_change_behind_a_guess(program, line, block, done):
         want(shown.split(b"\r\n")[: len(keys)], [done] * len(keys))
 
 
-def an_eviction_behind_a_guess(program):
+def an_eviction_behind_a_hint(program):
     """The first requests of a look evict the items for which the others ask."""
     with contextlib.ExitStack() as stack:
         both = Both(stack, program)
@@ -248,8 +248,8 @@ def an_eviction_behind_a_guess(program):
 
 def main(program, seeds):
     checks = [(f"seed {seed}", pipelines_are_answered_alike, (program, seed)) for seed in seeds]
-    checks += [(f"{name} behind a guess", a_change_behind_a_guess, (program, *change)) for name, change in CHANGES.items()]
-    checks.append(("evictions behind a guess", an_eviction_behind_a_guess, (program,)))
+    checks += [(f"{name} behind a hint", a_change_behind_a_hint, (program, *change)) for name, change in CHANGES.items()]
+    checks.append(("evictions behind a hint", an_eviction_behind_a_hint, (program,)))
     return tally(checks)
 
 

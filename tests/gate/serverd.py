@@ -384,7 +384,7 @@ def each_command_is_counted(at, before):
             want((command, counts_of(server, requests)), (command, wanted))
 
 
-# So many items that a server guesses the slots of a pipeline's keys, and requests that let it do so: they find nothing.
+# So many items that a server has hints of the slots of a pipeline's keys, and requests that let it do so: they find nothing.
 MANY = 33_000
 AFTER = b"".join(b"touch of-an-item-that-is-not-there-%d 0\r\n" % number for number in range(4))
 # These end all items, or all reading: they are last. Two of the others name the number of an item.

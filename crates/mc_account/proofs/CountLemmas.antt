@@ -12,7 +12,7 @@ use Rattle.mc_route.specs.declared.losses.Losses.{Losses}
 use Rattle.mc_link.specs.LinkState.{LinkState, Waiting}
 use Rattle.mc_link.specs.declared.turns.Tag.{Tag}
 use Rattle.mc_proxy.specs.Emits.{IsEmit, answer_of_one, emitted_from, is_known}
-use Rattle.mc_proxy.specs.SessionNoting.{noted_at, noted_in}
+use Rattle.mc_proxy.specs.SessionNoting.{set_outcome_in_session, set_outcome_of_request}
 use Rattle.mc_proxy.specs.SessionState.{SessionState, Unanswered, answered, link_at}
 use Rattle.mc_proxy.specs.SessionTurns.{IsFed, IsTurn}
 use Rattle.mc_proxy.specs.declared.session_turns.Emit.TheVariants as emits
@@ -122,22 +122,23 @@ pub answered-sent : (number count : ℕ) (old : ProxyState) (m : ℕ) → answer
 answered-sent number count old m = answered_sent_from number count old (session_at old number) refl m
 
 -- an outcome is noted
-length-noted_at : (place atom : ℕ) (outcome : Outcome) (us : List Unanswered) → length (noted_at place atom outcome us) ≡ length us
-length-noted_at place atom outcome [] = refl
-length-noted_at zero atom outcome (u ∷ us) = refl
-length-noted_at (suc place) atom outcome (u ∷ us) = ap suc (length-noted_at place atom outcome us)
+length-set_outcome_of_request : (place atom : ℕ) (outcome : Outcome) (us : List Unanswered) → length (set_outcome_of_request place atom outcome us) ≡ length us
+length-set_outcome_of_request place atom outcome [] = refl
+length-set_outcome_of_request zero atom outcome (u ∷ us) = refl
+length-set_outcome_of_request (suc place) atom outcome (u ∷ us) = ap suc (length-set_outcome_of_request place atom outcome us)
 
-answered-noted_in : (tag : Tag) (outcome : Outcome) (session : SessionState) → answered (noted_in tag outcome session) ≡ answered session
-answered-noted_in tag outcome session =
+answered-set_outcome_in_session : (tag : Tag) (outcome : Outcome) (session : SessionState)
+    → answered (set_outcome_in_session tag outcome session) ≡ answered session
+answered-set_outcome_in_session tag outcome session =
     (elim (nat_lt tag.request (answered session)) as (λ v.
-    answered (if v then session else record session { unanswered = noted_at (tag.request - answered session) tag.atom outcome session.unanswered }) ≡ answered session) [
+    answered (if v then session else record session { unanswered = set_outcome_of_request (tag.request - answered session) tag.atom outcome session.unanswered }) ≡ answered session) [
       | true ↦ refl
-      | false ↦ ap (λ (size : ℕ). session.taken - size) (length-noted_at (tag.request - answered session) tag.atom outcome session.unanswered)
+      | false ↦ ap (λ (size : ℕ). session.taken - size) (length-set_outcome_of_request (tag.request - answered session) tag.atom outcome session.unanswered)
     ])
 
-answered_noted_at : (tag : Tag) (outcome : Outcome) (session : Option SessionState) → option_map answered (option_map (noted_in tag outcome) session) ≡ option_map answered session
+answered_noted_at : (tag : Tag) (outcome : Outcome) (session : Option SessionState) → option_map answered (option_map (set_outcome_in_session tag outcome) session) ≡ option_map answered session
 answered_noted_at tag outcome None = refl
-answered_noted_at tag outcome (Some session) = ap (λ (count : ℕ). Some count) (answered-noted_in tag outcome session)
+answered_noted_at tag outcome (Some session) = ap (λ (count : ℕ). Some count) (answered-set_outcome_in_session tag outcome session)
 
 pub answered-noted : (tag : Tag) (outcome : Outcome) (sessions : Sessions) (m : ℕ) → option_map answered (session_in (noted tag outcome sessions) m) ≡ option_map answered (session_in sessions m)
 answered-noted tag outcome sessions m =

@@ -13,14 +13,14 @@ use Rattle.mc_reply.specs.declared.replies.Reply.{Reply as AReply}
 use Rattle.mc_codec.specs.Spellings.{spelling_of_atom}
 use Rattle.mc_link.specs.LinkState.{LinkState, Waiting, down_link, sent}
 use Rattle.mc_link.specs.declared.turns.Tag.{Tag}
-use Rattle.mc_proxy.specs.Emits.{is_told}
+use Rattle.mc_proxy.specs.Emits.{is_noted}
 use Rattle.mc_proxy.specs.Sending.{at_once, handed, handed_to, tag_of}
 use Rattle.mc_proxy.specs.SessionState.{link_at, with_link}
 use Rattle.mc_account.specs.Orders.{Order, Tagged, TakenRequest, commands_from, commands_in, commands_to, outcomes_from, outcomes_in, outcomes_to}
-use Rattle.mc_account.specs.Lanes.{CanHave, Lane, LaneHolds, LinkHolds, as_waiting, spelled, told}
+use Rattle.mc_account.specs.Lanes.{CanHave, Lane, LaneHolds, LinkHolds, as_waiting, replies_text, spelled}
 use Rattle.mc_account.proofs.OpenSessions.{own_number}
 use Rattle.mc_account.proofs.OrderLemmas.{commands-push, outcomes-push, passes_joined}
-use Rattle.mc_account.proofs.LaneLemmas.{can-append, can_length, link_own, link_other, spelled-append, told-append}
+use Rattle.mc_account.proofs.LaneLemmas.{can-append, can_length, link_own, link_other, spelled-append, replies_text-append}
 
 -- a link to which commands were sent in order
 abbrev pub received : List Tagged → LinkState → LinkState
@@ -95,16 +95,16 @@ at_once_up place session request at (command ∷ commands) links up =
     ]) refl
 
 at_once_down : (place : ℕ) (commands : List Routed) (links : List LinkState) → (link_at links place).up ≡ false
-    → list_all is_told (outcomes_from place commands (map (at_once links) commands)) ≡ true
+    → list_all is_noted (outcomes_from place commands (map (at_once links) commands)) ≡ true
 at_once_down place [] links down = refl
 at_once_down place (command ∷ commands) links down =
     let again = at_once_down place commands links down in
     (elim (command.server == place) as (λ v. command.server == place ≡ v
-    → list_all is_told (if v then at_once links command ∷ outcomes_from place commands (map (at_once links) commands) else outcomes_from place commands (map (at_once links) commands)) ≡ true) [
+    → list_all is_noted (if v then at_once links command ∷ outcomes_from place commands (map (at_once links) commands) else outcomes_from place commands (map (at_once links) commands)) ≡ true) [
       | true ↦ λ is.
           let same : command.server ≡ place = eqb-true command.server place is in
           let lost : (link_at links command.server).up ≡ false = rw same down in
-          ap (λ (v : Bool). list_all is_told ((if v then Awaited else Lost) ∷ outcomes_from place commands (map (at_once links) commands))) lost ∙ again
+          ap (λ (v : Bool). list_all is_noted ((if v then Awaited else Lost) ∷ outcomes_from place commands (map (at_once links) commands))) lost ∙ again
       | false ↦ λ is. again
     ]) refl
 
@@ -126,7 +126,7 @@ lane_taken place order e lane link awaited h =
           ∙ ap (λ (cs : List Tagged). spelled cs) (sym commands);
       came = h.came
           ∙ ap (λ (bytes : List ℕ). bytes ++ link.unread)
-          (sym (told-append (commands_to place (drop lane.since order)) (commands_in place e) lane.replies h.can) ∙ ap (λ (cs : List Tagged). told cs lane.replies) (sym commands));
+          (sym (replies_text-append (commands_to place (drop lane.since order)) (commands_in place e) lane.replies h.can) ∙ ap (λ (cs : List Tagged). replies_text cs lane.replies) (sym commands));
       can = subst (λ (cs : List Tagged). CanHave cs lane.replies) (sym commands) (can-append (commands_to place (drop lane.since order)) (commands_in place e) lane.replies h.can);
       waiting =
           ap (λ (ws : List Waiting). ws ++ as_waiting (commands_in place e)) h.waiting
@@ -140,7 +140,7 @@ lane_taken place order e lane link awaited h =
           ∙ append_assoc (map (λ (reply : AReply (List ℕ)). Reply reply) lane.replies) (map (λ (_ : Waiting). Awaited) link.waiting) (map (λ (_ : Waiting). Awaited) (as_waiting (commands_in place e)))
           ∙ ap (λ (xs : List Outcome). map (λ (reply : AReply (List ℕ)). Reply reply) lane.replies ++ xs)
           (sym (map-append (λ (_ : Waiting). Awaited) link.waiting (as_waiting (commands_in place e))));
-      before = ap (λ (es : Order). list_all is_told (outcomes_to place es)) taken ∙ h.before;
+      before = ap (λ (es : Order). list_all is_noted (outcomes_to place es)) taken ∙ h.before;
     }
 
 -- the link at a place, after a request is taken
@@ -169,9 +169,9 @@ link_taken place session request order e lane links now whose numbered outcomes 
       λ up. absurd (down up),
       λ _. record {
         nothing = (h.1 down).nothing;
-        outcomes = ap (λ (xs : List Outcome). list_all is_told xs) (outcomes-push place order e)
-            ∙ passes_joined is_told (outcomes_to place order) (outcomes_in place e) (h.1 down).outcomes
-            (ap (λ (xs : List Outcome). list_all is_told xs) becomes ∙ at_once_down place (route_of_taken e.ring e.what) links off);
+        outcomes = ap (λ (xs : List Outcome). list_all is_noted xs) (outcomes-push place order e)
+            ∙ passes_joined is_noted (outcomes_to place order) (outcomes_in place e) (h.1 down).outcomes
+            (ap (λ (xs : List Outcome). list_all is_noted xs) becomes ∙ at_once_down place (route_of_taken e.ring e.what) links off);
       },
     ))
     (cases_Bool (link_at links place).up)

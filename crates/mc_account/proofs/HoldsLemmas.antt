@@ -20,7 +20,7 @@ use Rattle.mc_proxy.specs.declared.session_turns.SessionTurn.TheVariants as turn
 use Rattle.mc_proxy.specs.ProxyState.{ProxyState, Sessions, output_of, sent_by, session_at, session_in, updated, with_fresh, without}
 use Rattle.mc_proxy.specs.Turns.{Alone, Steps}
 use Rattle.mc_account.specs.Lanes.{Lane, LinkHolds}
-use Rattle.mc_account.specs.Orders.{AreInOrder, TakenRequest, IsSized, Order, entries_of, is_complete, IsToldAs}
+use Rattle.mc_account.specs.Orders.{AreInOrder, TakenRequest, IsSized, Order, entries_of, is_complete, HasChoice}
 use Rattle.mc_account.specs.Holds.{ProxyHolds, SessionHolds, SessionHoldsAt, changed, grown}
 use Rattle.mc_account.proofs.OpenSessions.{at_each, fresh_other, fresh_own, other_number, own_number, updated_other, without_other}
 use Rattle.mc_account.proofs.OrderLemmas.{entries_push_other, entries_push_own, in_order_push}
@@ -62,11 +62,11 @@ stepped : (texts texts' sent sent' : ℕ → List ℕ) (order longer : Order) (l
     → session_at old number ≡ Some before → new.sessions ≡ updated number after old.sessions → new.admitted ≡ old.admitted → new.losses ≡ old.losses
     → SessionHolds number longer (texts' number) (sent' number) after
     → ((m : ℕ) → number ≢ m → texts' m ≡ texts m) → ((m : ℕ) → number ≢ m → sent' m ≡ sent m) → ((m : ℕ) → number ≢ m → entries_of m longer ≡ entries_of m order)
-    → All IsSized longer → All (IsToldAs old.losses) longer → ((m : ℕ) → AreInOrder (entries_of m longer)) → ((place : ℕ) → LinkHolds place longer (lanes place) (link_at new.links place))
+    → All IsSized longer → All (HasChoice old.losses) longer → ((m : ℕ) → AreInOrder (entries_of m longer)) → ((place : ℕ) → LinkHolds place longer (lanes place) (link_at new.links place))
     → ProxyHolds texts sent order lanes old → ProxyHolds texts' sent' longer lanes new
 stepped texts texts' sent sent' order longer lanes number before after old new was is admitted losses own text_is sent_is same sized chosen numbered links h = record {
   sized = sized;
-  chosen = subst (λ (l : Losses). All (IsToldAs l) longer) (sym losses) chosen;
+  chosen = subst (λ (l : Losses). All (HasChoice l) longer) (sym losses) chosen;
   numbered = numbered;
   sessions = at_each number before after old.sessions new.sessions was is (λ m s. SessionHoldsAt m longer (texts' m) (sent' m) s) own
       (λ m differ. session_same m order longer (texts m) (texts' m) (sent m) (sent' m) (session_at old m) (same m differ) (text_is m differ) (sent_is m differ) (h.sessions m));
@@ -155,7 +155,7 @@ holds-took texts sent order lanes number old new h steps =
     stepped texts texts sent sent order (order ++ entry_taken steps ∷ []) lanes number steps.before steps.after old new steps.was steps.is steps.admitted steps.losses
     (session_took number order (texts number) (sent number) old.ring old.losses old.links new.links steps.before steps.after steps.step.0 was steps.step.1)
     (λ _ _. refl) (λ _ _. refl) (λ m differ. entries_push_other m order (entry_taken steps) differ)
-    (All-push IsSized order (entry_taken steps) h.sized sized) (All-push (IsToldAs old.losses) order (entry_taken steps) h.chosen refl)
+    (All-push IsSized order (entry_taken steps) h.sized sized) (All-push (HasChoice old.losses) order (entry_taken steps) h.chosen refl)
     (λ m. ⊎_elim
     (λ same. subst (λ (n : ℕ). AreInOrder (entries_of n (order ++ entry_taken steps ∷ []))) same.1
     (subst (λ (es : Order). AreInOrder es) (sym (entries_push_own number order (entry_taken steps) refl)) (in_order_push (entries_of number order) (entry_taken steps) (h.numbered number) was.taken)))

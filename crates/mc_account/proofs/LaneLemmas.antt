@@ -18,10 +18,10 @@ use Rattle.mc_codec.specs.Spellings.{spelling_of_atom}
 use Rattle.mc_link.specs.LinkState.{LinkState, Waiting, down_link, up_link}
 use Rattle.mc_link.specs.Turns.{Takes as LinkTakes}
 use Rattle.mc_link.specs.declared.turns.Tag.{Tag}
-use Rattle.mc_proxy.specs.Emits.{is_told}
+use Rattle.mc_proxy.specs.Emits.{is_noted}
 use Rattle.mc_proxy.specs.SessionState.{link_at, with_link}
 use Rattle.mc_account.specs.Orders.{Order, Tagged, IsSized, commands_to, is_complete, note, note_in, outcomes_from, outcomes_in, outcomes_to}
-use Rattle.mc_account.specs.Lanes.{CanHave, IsDown, Lane, LaneHolds, LinkHolds, as_waiting, fresh_lane, spelled, told}
+use Rattle.mc_account.specs.Lanes.{CanHave, IsDown, Lane, LaneHolds, LinkHolds, as_waiting, fresh_lane, replies_text, spelled}
 use Rattle.mc_account.proofs.OpenSessions.{own_number}
 use Rattle.mc_account.proofs.OrderLemmas.{commands-append, commands-note, lengths_to, passes_joined, passes_parts, told_whole}
 use Rattle.mc_account.proofs.TagLemmas.{awaited, awaited-append, awaited_to, count, count-append, count_to, count_to_both, owners, owners-append, same_tag, same_tag_self, incomplete-append, incomplete_owners, weight}
@@ -47,10 +47,11 @@ pub spelled-append : (cs ds : List Tagged) → spelled (cs ++ ds) ≡ spelled cs
 spelled-append [] ds = refl
 spelled-append (c ∷ cs) ds = ap (λ (bytes : List ℕ). spelling_of_atom c.0 ++ bytes) (spelled-append cs ds) ∙ sym (append_assoc (spelling_of_atom c.0) (spelled cs) (spelled ds))
 
-pub told-append : (cs ds : List Tagged) (replies : List (AReply (List ℕ))) → CanHave cs replies → told (cs ++ ds) replies ≡ told cs replies
-told-append cs ds [] can = refl
-told-append [] ds (r ∷ rs) can = absurd can
-told-append (c ∷ cs) ds (r ∷ rs) can = ap (λ (bytes : List ℕ). spelling_of (head_of c.0) r ++ bytes) (told-append cs ds rs can.1)
+pub replies_text-append : (cs ds : List Tagged) (replies : List (AReply (List ℕ))) → CanHave cs replies
+    → replies_text (cs ++ ds) replies ≡ replies_text cs replies
+replies_text-append cs ds [] can = refl
+replies_text-append [] ds (r ∷ rs) can = absurd can
+replies_text-append (c ∷ cs) ds (r ∷ rs) can = ap (λ (bytes : List ℕ). spelling_of (head_of c.0) r ++ bytes) (replies_text-append cs ds rs can.1)
 
 pub can-append : (cs ds : List Tagged) (replies : List (AReply (List ℕ))) → CanHave cs replies → CanHave (cs ++ ds) replies
 can-append cs ds [] can = tt
@@ -63,14 +64,14 @@ can_length [] (r ∷ rs) can = absurd can
 can_length (c ∷ cs) (r ∷ rs) can = omega (arith, can_length cs rs can.1)
 
 -- one reply more
-told-push : (front back : List Tagged) (c : Tagged) (replies : List (AReply (List ℕ))) (reply : AReply (List ℕ)) → length front ≡ length replies
-    → told (front ++ c ∷ back) (replies ++ reply ∷ []) ≡ told (front ++ c ∷ back) replies ++ spelling_of (head_of c.0) reply
-told-push [] back c [] reply h = append-nil (spelling_of (head_of c.0) reply)
-told-push [] back c (r ∷ rs) reply h = absurd cc
-told-push (f ∷ fs) back c [] reply h = absurd cc
-told-push (f ∷ fs) back c (r ∷ rs) reply h =
-    ap (λ (bytes : List ℕ). spelling_of (head_of f.0) r ++ bytes) (told-push fs back c rs reply (cc))
-    ∙ sym (append_assoc (spelling_of (head_of f.0) r) (told (fs ++ c ∷ back) rs) (spelling_of (head_of c.0) reply))
+replies_text-push : (front back : List Tagged) (c : Tagged) (replies : List (AReply (List ℕ))) (reply : AReply (List ℕ)) → length front ≡ length replies
+    → replies_text (front ++ c ∷ back) (replies ++ reply ∷ []) ≡ replies_text (front ++ c ∷ back) replies ++ spelling_of (head_of c.0) reply
+replies_text-push [] back c [] reply h = append-nil (spelling_of (head_of c.0) reply)
+replies_text-push [] back c (r ∷ rs) reply h = absurd cc
+replies_text-push (f ∷ fs) back c [] reply h = absurd cc
+replies_text-push (f ∷ fs) back c (r ∷ rs) reply h =
+    ap (λ (bytes : List ℕ). spelling_of (head_of f.0) r ++ bytes) (replies_text-push fs back c rs reply (cc))
+    ∙ sym (append_assoc (spelling_of (head_of f.0) r) (replies_text (fs ++ c ∷ back) rs) (spelling_of (head_of c.0) reply))
 
 can-push : (front back : List Tagged) (c : Tagged) (replies : List (AReply (List ℕ))) (reply : AReply (List ℕ)) → length front ≡ length replies
     → can_have (head_of c.0) reply ≡ true → CanHave (front ++ c ∷ back) replies → CanHave (front ++ c ∷ back) (replies ++ reply ∷ [])
@@ -80,7 +81,7 @@ can-push (f ∷ fs) back c [] reply h can others = absurd cc
 can-push (f ∷ fs) back c (r ∷ rs) reply h can others = (others.0, can-push fs back c rs reply (cc) can others.1)
 
 -- replies are known outcomes
-pub replies_told : (replies : List (AReply (List ℕ))) → list_all is_told (map (λ (reply : AReply (List ℕ)). Reply reply) replies) ≡ true
+pub replies_told : (replies : List (AReply (List ℕ))) → list_all is_noted (map (λ (reply : AReply (List ℕ)). Reply reply) replies) ≡ true
 replies_told [] = refl
 replies_told (r ∷ rs) = replies_told rs
 
@@ -92,8 +93,8 @@ pub record Pending (place since : ℕ) (order : Order) (known : List Outcome) (w
   pub size : length front ≡ length known
   pub waits : waiting ≡ as_waiting rest
   pub outcomes : outcomes_to place (drop since order) ≡ known ++ map (λ (_ : Waiting). Awaited) waiting
-  pub known_told : list_all is_told known ≡ true
-  pub before : list_all is_told (outcomes_to place (take since order)) ≡ true
+  pub known_told : list_all is_noted known ≡ true
+  pub before : list_all is_noted (outcomes_to place (take since order)) ≡ true
 
 pub pending_of : (place : ℕ) (order : Order) (lane : Lane) (link : LinkState) → LaneHolds place order lane link
     → Pending place lane.since order (map (λ (reply : AReply (List ℕ)). Reply reply) lane.replies) link.waiting
@@ -111,10 +112,10 @@ pending_of place order lane link h =
     }
 
 -- if none is pending, the outcome of each command is known
-pub pending_none : (place since : ℕ) (order : Order) (known : List Outcome) → Pending place since order known [] → list_all is_told (outcomes_to place order) ≡ true
+pub pending_none : (place since : ℕ) (order : Order) (known : List Outcome) → Pending place since order known [] → list_all is_noted (outcomes_to place order) ≡ true
 pending_none place since order known h =
     let all : outcomes_to place (drop since order) ≡ known = h.outcomes ∙ append-nil known in
-    told_whole place since order h.before (ap (λ (xs : List Outcome). list_all is_told xs) all ∙ h.known_told)
+    told_whole place since order h.before (ap (λ (xs : List Outcome). list_all is_noted xs) all ∙ h.known_told)
 
 -- the oldest pending command
 record Oldest (w : Waiting) (ws : List Waiting) (rest : List Tagged) : Type 0 where
@@ -177,7 +178,7 @@ is_oldest place since order known w ws sized h =
     }
 
 -- its outcome is noted: it is known, and the others are pending
-pub pending_noted : (place since : ℕ) (order : Order) (known : List Outcome) (w : Waiting) (ws : List Waiting) (outcome : Outcome) → All IsSized order → owners w.1 order ≤ 1 → is_told outcome ≡ true
+pub pending_noted : (place since : ℕ) (order : Order) (known : List Outcome) (w : Waiting) (ws : List Waiting) (outcome : Outcome) → All IsSized order → owners w.1 order ≤ 1 → is_noted outcome ≡ true
     → Pending place since order known (w ∷ ws) → Pending place since (note w.1 outcome order) (known ++ outcome ∷ []) ws
 pending_noted place since order known w ws outcome sized once known_now h =
     let o = oldest_of w ws h.rest h.waits in
@@ -205,9 +206,9 @@ pending_noted place since order known w ws outcome sized once known_now h =
           ∙ renoted_at w.1 outcome h.front o.others o.first known (map (λ (_ : Waiting). Awaited) ws) Awaited o.tag h.size back_len
           (omega (arith, counted, one, few, since_few, once)) (omega (arith, counted, one, few, since_few, once))
           ∙ sym (append_assoc known (outcome ∷ []) (map (λ (_ : Waiting). Awaited) ws));
-      known_told = passes_joined is_told known (outcome ∷ []) h.known_told (and_from (is_told outcome) true known_now refl);
+      known_told = passes_joined is_noted known (outcome ∷ []) h.known_told (and_from (is_noted outcome) true known_now refl);
       before =
-          ap (λ (xs : List Outcome). list_all is_told xs)
+          ap (λ (xs : List Outcome). list_all is_noted xs)
           (ap (λ (es : Order). outcomes_to place es) taken ∙ noted_to w.1 outcome place (take since order) (All-take IsSized since order sized))
           ∙ renoted_told w.1 outcome (commands_to place (take since order)) (outcomes_to place (take since order)) known_now h.before;
     }
@@ -216,12 +217,12 @@ pending_noted place since order known w ws outcome sized once known_now h =
 lane_same : (place : ℕ) (order longer : Order) (lane : Lane) (link : LinkState) → length order ≤ length longer
     → commands_to place (drop lane.since longer) ≡ commands_to place (drop lane.since order)
     → outcomes_to place (drop lane.since longer) ≡ outcomes_to place (drop lane.since order)
-    → list_all is_told (outcomes_to place (take lane.since longer)) ≡ true
+    → list_all is_noted (outcomes_to place (take lane.since longer)) ≡ true
     → LaneHolds place order lane link → LaneHolds place longer lane link
 lane_same place order longer lane link long commands outcomes before h = record {
   since = omega (arith, long, h.since);
   put = h.put ∙ ap (λ (cs : List Tagged). spelled cs) (sym commands);
-  came = h.came ∙ ap (λ (cs : List Tagged). told cs lane.replies ++ link.unread) (sym commands);
+  came = h.came ∙ ap (λ (cs : List Tagged). replies_text cs lane.replies ++ link.unread) (sym commands);
   can = subst (λ (cs : List Tagged). CanHave cs lane.replies) (sym commands) h.can;
   waiting = h.waiting ∙ ap (λ (cs : List Tagged). as_waiting (drop (length lane.replies) cs)) (sym commands);
   outcomes = outcomes ∙ h.outcomes;
@@ -233,16 +234,16 @@ commands_since-note : (place since : ℕ) (tag : Tag) (outcome : Outcome) (order
 commands_since-note place since tag outcome order =
     ap (λ (es : Order). commands_to place es) (drop-map (note_in tag outcome) since order) ∙ commands-note place tag outcome (drop since order)
 
-told_before-note : (place since : ℕ) (tag : Tag) (outcome : Outcome) (order : Order) → All IsSized order → is_told outcome ≡ true
-    → list_all is_told (outcomes_to place (take since order)) ≡ true → list_all is_told (outcomes_to place (take since (note tag outcome order))) ≡ true
+told_before-note : (place since : ℕ) (tag : Tag) (outcome : Outcome) (order : Order) → All IsSized order → is_noted outcome ≡ true
+    → list_all is_noted (outcomes_to place (take since order)) ≡ true → list_all is_noted (outcomes_to place (take since (note tag outcome order))) ≡ true
 told_before-note place since tag outcome order sized known h =
-    ap (λ (xs : List Outcome). list_all is_told xs)
+    ap (λ (xs : List Outcome). list_all is_noted xs)
     (ap (λ (es : Order). outcomes_to place es) (take-map (note_in tag outcome) since order) ∙ noted_to tag outcome place (take since order) (All-take IsSized since order sized))
     ∙ renoted_told tag outcome (commands_to place (take since order)) (outcomes_to place (take since order)) known h
 
 -- the link of another place, after an outcome of a command to this place is noted
 pub lane_other : (place other : ℕ) (tag : Tag) (outcome : Outcome) (order : Order) (lane : Lane) (link : LinkState) → place ≢ other → All IsSized order → owners tag order ≤ 1
-    → is_told outcome ≡ true → IsOldest place order tag → LaneHolds other order lane link → LaneHolds other (note tag outcome order) lane link
+    → is_noted outcome ≡ true → IsOldest place order tag → LaneHolds other order lane link → LaneHolds other (note tag outcome order) lane link
 lane_other place other tag outcome order lane link differ sized once known oldest h =
     let whole : count tag (commands_to other (take lane.since order)) + count tag (commands_to other (drop lane.since order)) ≡ count tag (commands_to other order) =
     sym (count-append tag (commands_to other (take lane.since order)) (commands_to other (drop lane.since order)))
@@ -258,17 +259,17 @@ lane_other place other tag outcome order lane link differ sized once known oldes
     ∙ renoted_absent tag outcome (commands_to other (drop lane.since order)) (outcomes_to other (drop lane.since order)) none (lengths_to other (drop lane.since order) since_sized))
     (told_before-note other lane.since tag outcome order sized known h.before) h
 
-down_other : (place : ℕ) (tag : Tag) (outcome : Outcome) (order : Order) (link : LinkState) → All IsSized order → is_told outcome ≡ true
+down_other : (place : ℕ) (tag : Tag) (outcome : Outcome) (order : Order) (link : LinkState) → All IsSized order → is_noted outcome ≡ true
     → IsDown place order link → IsDown place (note tag outcome order) link
 down_other place tag outcome order link sized known h = record {
   nothing = h.nothing;
   outcomes =
-      ap (λ (xs : List Outcome). list_all is_told xs) (noted_to tag outcome place order sized)
+      ap (λ (xs : List Outcome). list_all is_noted xs) (noted_to tag outcome place order sized)
       ∙ renoted_told tag outcome (commands_to place order) (outcomes_to place order) known h.outcomes;
 }
 
 pub link_other_noted : (place other : ℕ) (tag : Tag) (outcome : Outcome) (order : Order) (lane : Lane) (link : LinkState) → place ≢ other → All IsSized order → owners tag order ≤ 1
-    → is_told outcome ≡ true → IsOldest place order tag → LinkHolds other order lane link → LinkHolds other (note tag outcome order) lane link
+    → is_noted outcome ≡ true → IsOldest place order tag → LinkHolds other order lane link → LinkHolds other (note tag outcome order) lane link
 link_other_noted place other tag outcome order lane link differ sized once known oldest h = (
   λ up. lane_other place other tag outcome order lane link differ sized once known oldest (h.0 up),
   λ down. down_other other tag outcome order link sized known (h.1 down),
@@ -291,11 +292,11 @@ lane_replied place order lane old tag reply new sized once takes h =
       put = ap (λ (bytes : List ℕ). lane.out ++ bytes) output ∙ h.put ∙ ap (λ (cs : List Tagged). spelled cs) (commands ∙ sym now);
       came =
           h.came
-          ∙ ap₂ (λ (cs : List Tagged) (bytes : List ℕ). told cs lane.replies ++ bytes) commands takes.spelled
-          ∙ sym (append_assoc (told (p.front ++ o.first ∷ o.others) lane.replies) (spelling_of takes.head reply) new.unread)
-          ∙ ap (λ (head : Atom (Unit {0})). (told (p.front ++ o.first ∷ o.others) lane.replies ++ spelling_of head reply) ++ new.unread) (sym o.head)
-          ∙ ap (λ (bytes : List ℕ). bytes ++ new.unread) (sym (told-push p.front o.others o.first lane.replies reply front_len))
-          ∙ ap (λ (cs : List Tagged). told cs (lane.replies ++ reply ∷ []) ++ new.unread) (sym now);
+          ∙ ap₂ (λ (cs : List Tagged) (bytes : List ℕ). replies_text cs lane.replies ++ bytes) commands takes.spelled
+          ∙ sym (append_assoc (replies_text (p.front ++ o.first ∷ o.others) lane.replies) (spelling_of takes.head reply) new.unread)
+          ∙ ap (λ (head : Atom (Unit {0})). (replies_text (p.front ++ o.first ∷ o.others) lane.replies ++ spelling_of head reply) ++ new.unread) (sym o.head)
+          ∙ ap (λ (bytes : List ℕ). bytes ++ new.unread) (sym (replies_text-push p.front o.others o.first lane.replies reply front_len))
+          ∙ ap (λ (cs : List Tagged). replies_text cs (lane.replies ++ reply ∷ []) ++ new.unread) (sym now);
       can = subst (λ (cs : List Tagged). CanHave cs (lane.replies ++ reply ∷ [])) (sym now)
           (can-push p.front o.others o.first lane.replies reply front_len (subst (λ (head : Atom (Unit {0})). can_have head reply ≡ true) (sym o.head) takes.can)
           (subst (λ (cs : List Tagged). CanHave cs lane.replies) commands h.can));
@@ -313,7 +314,7 @@ lane_replied place order lane old tag reply new sized once takes h =
 
 -- if no command is pending on a link, the outcome of each command to its place is known
 pub nothing_waits : (place : ℕ) (order : Order) (lane : Lane) (link : LinkState) → link.waiting ≡ [] → LinkHolds place order lane link
-    → list_all is_told (outcomes_to place order) ≡ true
+    → list_all is_noted (outcomes_to place order) ≡ true
 nothing_waits place order lane link none h =
     ⊎_elim
     (λ (up : link.up ≡ true). pending_none place lane.since order (map (λ (reply : AReply (List ℕ)). Reply reply) lane.replies)
@@ -322,32 +323,32 @@ nothing_waits place order lane link none h =
     (cases_Bool link.up)
 
 -- outcomes that are known of the commands to each place are known of all
-complete_from : (commands : List Routed) (xs : List Outcome) → length xs ≡ length commands → ((place : ℕ) → list_all is_told (outcomes_from place commands xs) ≡ true)
-    → list_all is_told xs ≡ true
+complete_from : (commands : List Routed) (xs : List Outcome) → length xs ≡ length commands → ((place : ℕ) → list_all is_noted (outcomes_from place commands xs) ≡ true)
+    → list_all is_noted xs ≡ true
 complete_from [] [] h known = refl
 complete_from [] (x ∷ xs) h known = absurd cc
 complete_from (command ∷ commands) [] h known = absurd cc
 complete_from (command ∷ commands) (x ∷ xs) h known =
-    let own : list_all is_told (x ∷ outcomes_from command.server commands xs) ≡ true =
-    ap (λ (v : Bool). list_all is_told (if v then x ∷ outcomes_from command.server commands xs else outcomes_from command.server commands xs)) (sym (own_number command.server)) ∙ known command.server in
-    let first = (and_parts (is_told x) (list_all is_told (outcomes_from command.server commands xs)) own).0 in
+    let own : list_all is_noted (x ∷ outcomes_from command.server commands xs) ≡ true =
+    ap (λ (v : Bool). list_all is_noted (if v then x ∷ outcomes_from command.server commands xs else outcomes_from command.server commands xs)) (sym (own_number command.server)) ∙ known command.server in
+    let first = (and_parts (is_noted x) (list_all is_noted (outcomes_from command.server commands xs)) own).0 in
     let others = λ (place : ℕ). (elim (command.server == place) as (λ v.
-    list_all is_told (if v then x ∷ outcomes_from place commands xs else outcomes_from place commands xs) ≡ true → list_all is_told (outcomes_from place commands xs) ≡ true) [
-      | true ↦ λ e. (and_parts (is_told x) (list_all is_told (outcomes_from place commands xs)) e).1
+    list_all is_noted (if v then x ∷ outcomes_from place commands xs else outcomes_from place commands xs) ≡ true → list_all is_noted (outcomes_from place commands xs) ≡ true) [
+      | true ↦ λ e. (and_parts (is_noted x) (list_all is_noted (outcomes_from place commands xs)) e).1
       | false ↦ λ e. e
     ]) (known place) in
-    and_from (is_told x) (list_all is_told xs) first (complete_from commands xs (cc) others)
+    and_from (is_noted x) (list_all is_noted xs) first (complete_from commands xs (cc) others)
 
-pub complete_order : (es : Order) → All IsSized es → ((place : ℕ) → list_all is_told (outcomes_to place es) ≡ true) → list_all is_complete es ≡ true
+pub complete_order : (es : Order) → All IsSized es → ((place : ℕ) → list_all is_noted (outcomes_to place es) ≡ true) → list_all is_complete es ≡ true
 complete_order [] sized known = refl
 complete_order (e ∷ es) sized known =
-    let parts = λ (place : ℕ). passes_parts is_told (outcomes_in place e) (outcomes_to place es) (known place) in
+    let parts = λ (place : ℕ). passes_parts is_noted (outcomes_in place e) (outcomes_to place es) (known place) in
     and_from (is_complete e) (list_all is_complete es)
     (complete_from (route_of_taken e.ring e.what) e.outcomes (All-head IsSized e es sized) (λ place. (parts place).0))
     (complete_order es (All-tail IsSized e es sized) (λ place. (parts place).1))
 
 -- a link that came up just now
-pub lane_fresh : (place generation : ℕ) (order : Order) → list_all is_told (outcomes_to place order) ≡ true → LaneHolds place order (fresh_lane (length order)) (up_link generation)
+pub lane_fresh : (place generation : ℕ) (order : Order) → list_all is_noted (outcomes_to place order) ≡ true → LaneHolds place order (fresh_lane (length order)) (up_link generation)
 lane_fresh place generation order known =
     let none : commands_to place (drop (length order) order) ≡ [] = ap (λ (es : Order). commands_to place es) (drop_all (length order) order (omega arith)) in
     record {
@@ -357,5 +358,5 @@ lane_fresh place generation order known =
       can = tt;
       waiting = ap (λ (cs : List Tagged). as_waiting cs) (sym none);
       outcomes = ap (λ (es : Order). outcomes_to place es) (drop_all (length order) order (omega arith));
-      before = ap (λ (es : Order). list_all is_told (outcomes_to place es)) (take_all (length order) order (omega arith)) ∙ known;
+      before = ap (λ (es : Order). list_all is_noted (outcomes_to place es)) (take_all (length order) order (omega arith)) ∙ known;
     }

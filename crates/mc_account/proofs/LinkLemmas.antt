@@ -12,15 +12,15 @@ use Rattle.mc_route.specs.declared.outcomes.Outcome.TheVariants.{Lost, Reply}
 use Rattle.mc_route.specs.declared.losses.Losses.{Losses}
 use Rattle.mc_link.specs.LinkState.{LinkState, Waiting, down_link}
 use Rattle.mc_link.specs.declared.turns.Tag.{Tag}
-use Rattle.mc_proxy.specs.Emits.{is_told}
-use Rattle.mc_proxy.specs.SessionNoting.{noted_in}
+use Rattle.mc_proxy.specs.Emits.{is_noted}
+use Rattle.mc_proxy.specs.SessionNoting.{set_outcome_in_session}
 use Rattle.mc_proxy.specs.SessionState.{SessionState, link_at, with_link}
 use Rattle.mc_proxy.specs.Joins.{JoinsServer, joined_link}
 use Rattle.mc_proxy.specs.LinkTurns.{Answers, lost_at}
 use Rattle.mc_proxy.specs.Noting.{all_lost, noted}
 use Rattle.mc_proxy.specs.ProxyState.{ProxyState, Sessions, session_in}
 use Rattle.mc_account.specs.Lanes.{Lane, LinkHolds, fresh_lane}
-use Rattle.mc_account.specs.Orders.{AreInOrder, IsSized, Order, entries_of, note, note_all, outcomes_to, IsToldAs}
+use Rattle.mc_account.specs.Orders.{AreInOrder, IsSized, Order, entries_of, note, note_all, outcomes_to, HasChoice}
 use Rattle.mc_account.specs.Holds.{IsUnused, ProxyHolds, SessionHoldsAt, changed}
 use Rattle.mc_account.proofs.OpenSessions.{noted_other, noted_own}
 use Rattle.mc_account.proofs.OrderLemmas.{entries-note, in_order-note, sized-note, chosen-note}
@@ -32,7 +32,7 @@ use Rattle.mc_account.proofs.HoldsLemmas.{changed-other, changed-own}
 -- a proxy holds except for the link at one place, of which nothing is claimed
 pub record HoldsBut (texts sent : ℕ → List ℕ) (order : Order) (lanes : ℕ → Lane) (place : ℕ) (losses : Losses) (sessions : Sessions) (admitted : ℕ) (links : List LinkState) : Type 0 where
   pub sized : All IsSized order
-  pub chosen : All (IsToldAs losses) order
+  pub chosen : All (HasChoice losses) order
   pub numbered : (number : ℕ) → AreInOrder (entries_of number order)
   pub each : (number : ℕ) → SessionHoldsAt number order (texts number) (sent number) (session_in sessions number)
   pub unused : (number : ℕ) → admitted ≤ number → IsUnused number order (texts number) (sent number) (session_in sessions number)
@@ -70,7 +70,7 @@ holds_with texts sent order lanes lanes' place links new h own lane_is link_is =
 -- the session of a tag, open or not, after an outcome is noted that was pending
 at_noted : (tag : Tag) (outcome : Outcome) (order : Order) (text sent : List ℕ) (session : Option SessionState) → AreInOrder (entries_of tag.session order)
     → owners tag order ≤ 1 → 1 ≤ incomplete_owners tag order → SessionHoldsAt tag.session order text sent session
-    → SessionHoldsAt tag.session (note tag outcome order) text sent (option_map (noted_in tag outcome) session)
+    → SessionHoldsAt tag.session (note tag outcome order) text sent (option_map (set_outcome_in_session tag outcome) session)
 at_noted tag outcome order text sent None numbered once open_one h = left_noted tag outcome order text sent once open_one h
 at_noted tag outcome order text sent (Some session) numbered once open_one h = session_noted tag outcome order text sent session numbered once open_one h
 
@@ -84,13 +84,13 @@ still_none : (tag : Tag) (outcome : Outcome) (number : ℕ) (sessions : Sessions
 still_none tag outcome number sessions none =
     ⊎_elim
     (λ e. subst (λ (n : ℕ). session_in sessions n ≡ None → session_in (noted tag outcome sessions) n ≡ None) e.1
-    (λ own. noted_own tag outcome sessions ∙ ap (λ (s : Option SessionState). option_map (noted_in tag outcome) s) own) none)
+    (λ own. noted_own tag outcome sessions ∙ ap (λ (s : Option SessionState). option_map (set_outcome_in_session tag outcome) s) own) none)
     (λ e. noted_other tag outcome number sessions e.1 ∙ none)
     (eqb_tells tag.session number)
 
 -- an outcome of a command to that place is noted
 but_noted : (texts sent : ℕ → List ℕ) (order : Order) (lanes : ℕ → Lane) (place : ℕ) (losses : Losses) (sessions : Sessions) (admitted : ℕ) (links : List LinkState) (tag : Tag) (outcome : Outcome)
-    → is_told outcome ≡ true → IsOldest place order tag → HoldsBut texts sent order lanes place losses sessions admitted links
+    → is_noted outcome ≡ true → IsOldest place order tag → HoldsBut texts sent order lanes place losses sessions admitted links
     → HoldsBut texts sent (note tag outcome order) lanes place losses (noted tag outcome sessions) admitted links
 but_noted texts sent order lanes place losses sessions admitted links tag outcome known oldest h =
     let once = tag_once tag order (h.numbered tag.session) in
@@ -150,7 +150,7 @@ holds-replied texts sent order lanes place old new h up answers =
 -- each pending command is lost
 record IsLost (texts sent : ℕ → List ℕ) (order : Order) (lanes : ℕ → Lane) (place : ℕ) (losses : Losses) (sessions : Sessions) (admitted : ℕ) (links : List LinkState) : Type 0 where
   pub but : HoldsBut texts sent order lanes place losses sessions admitted links
-  pub known : list_all is_told (outcomes_to place order) ≡ true
+  pub known : list_all is_noted (outcomes_to place order) ≡ true
 
 lost_each : (texts sent : ℕ → List ℕ) (order : Order) (lanes : ℕ → Lane) (place since : ℕ) (known : List Outcome) (waiting : List Waiting) (losses : Losses) (sessions : Sessions) (admitted : ℕ) (links : List LinkState)
     → Pending place since order known waiting → HoldsBut texts sent order lanes place losses sessions admitted links
@@ -193,7 +193,7 @@ link_pushed place other link links last differ =
     get_or_past (links ++ link ∷ []) other (down_link 0) far ∙ sym (get_or_past links other (down_link 0) past))
     (cases_lt other (length links))
 
-joined_own : (place : ℕ) (order : Order) (up : Bool) → list_all is_told (outcomes_to place order) ≡ true → LinkHolds place order (fresh_lane (length order)) (joined_link up)
+joined_own : (place : ℕ) (order : Order) (up : Bool) → list_all is_noted (outcomes_to place order) ≡ true → LinkHolds place order (fresh_lane (length order)) (joined_link up)
 joined_own place order true known = (λ _. lane_fresh place 1 order known, λ down. absurd (down refl))
 joined_own place order false known = (λ up. absurd cc, λ _. record { nothing = refl; outcomes = known })
 

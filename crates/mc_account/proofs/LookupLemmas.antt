@@ -13,7 +13,7 @@ use Rattle.mc_route.specs.declared.outcomes.Outcome.TheVariants.{Awaited, Reply}
 use Rattle.mc_route.specs.declared.routes.Routed.{Routed}
 use Rattle.mc_link.specs.LinkState.{Waiting}
 use Rattle.mc_link.specs.declared.turns.Tag.{Tag}
-use Rattle.mc_proxy.specs.Emits.{is_told}
+use Rattle.mc_proxy.specs.Emits.{is_noted}
 use Rattle.mc_proxy.specs.SessionState.{link_at}
 use Rattle.mc_proxy.specs.LinkTurns.{Answers}
 use Rattle.mc_proxy.specs.ProxyState.{ProxyState}
@@ -183,7 +183,7 @@ pub numbered-note : (tag : Tag) (outcome : Outcome) (order : Order) → ((number
 numbered-note tag outcome order numbered number =
     subst (λ (es : Order). AreInOrder es) (sym (entries-note number tag outcome order)) (in_order-note tag outcome (entries_of number order) (numbered number))
 
-pending_awaited : (place since : ℕ) (known : List Outcome) (waiting : List Waiting) (outcome : Outcome) (order : Order) → is_told outcome ≡ true
+pending_awaited : (place since : ℕ) (known : List Outcome) (waiting : List Waiting) (outcome : Outcome) (order : Order) → is_noted outcome ≡ true
     → ((number : ℕ) → AreInOrder (entries_of number order)) → All IsSized order → Pending place since order known waiting
     → AreAwaited (map (λ (w : Waiting). w.1) waiting) outcome order
 pending_awaited place since known [] outcome order told numbered sized h = tt
@@ -204,7 +204,7 @@ waiting_is_awaited texts sent order lanes now h place up k w at =
 
 -- they are awaited too if the same outcome is noted of all of them, in sequence
 pub all_waiting_are_awaited : (texts sent : ℕ → List ℕ) (order : Order) (lanes : ℕ → Lane) (now : ProxyState) → ProxyHolds texts sent order lanes now
-    → (place : ℕ) → (link_at now.links place).up ≡ true → (outcome : Outcome) → is_told outcome ≡ true
+    → (place : ℕ) → (link_at now.links place).up ≡ true → (outcome : Outcome) → is_noted outcome ≡ true
     → AreAwaited (map (λ (w : Waiting). w.1) (link_at now.links place).waiting) outcome order
 all_waiting_are_awaited texts sent order lanes now h place up outcome told =
     pending_awaited place (lanes place).since (map (λ (reply : AReply (List ℕ)). Reply reply) (lanes place).replies) (link_at now.links place).waiting outcome order told h.numbered h.sized

@@ -8,8 +8,8 @@ use Rattle.mc_route.specs.Routes.{route_of_taken}
 use Rattle.mc_route.specs.declared.outcomes.Outcome.{Outcome}
 use Rattle.mc_route.specs.declared.routes.Routed.{Routed}
 use Rattle.mc_link.specs.declared.turns.Tag.{Tag}
-use Rattle.mc_proxy.specs.Emits.{is_told}
-use Rattle.mc_proxy.specs.SessionNoting.{with_outcome}
+use Rattle.mc_proxy.specs.Emits.{is_noted}
+use Rattle.mc_proxy.specs.SessionNoting.{set_outcome}
 use Rattle.mc_proxy.specs.Sending.{tag_of}
 use Rattle.mc_account.specs.Orders.{TakenRequest, Order, Tagged, IsSized, commands_from, commands_in, commands_to, note, note_in, outcomes_from, outcomes_in, outcomes_to, owns}
 use Rattle.mc_account.proofs.OpenSessions.{other_number}
@@ -43,15 +43,15 @@ renoted_absent tag outcome (c ∷ cs) (x ∷ xs) none h =
     ]) none
 
 -- known outcomes stay known
-pub renoted_told : (tag : Tag) (outcome : Outcome) (cs : List Tagged) (xs : List Outcome) → is_told outcome ≡ true → list_all is_told xs ≡ true
-    → list_all is_told (renoted tag outcome cs xs) ≡ true
+pub renoted_told : (tag : Tag) (outcome : Outcome) (cs : List Tagged) (xs : List Outcome) → is_noted outcome ≡ true → list_all is_noted xs ≡ true
+    → list_all is_noted (renoted tag outcome cs xs) ≡ true
 renoted_told tag outcome [] xs known h = refl
 renoted_told tag outcome (c ∷ cs) [] known h = refl
 renoted_told tag outcome (c ∷ cs) (x ∷ xs) known h =
-    let parts = and_parts (is_told x) (list_all is_told xs) h in
+    let parts = and_parts (is_noted x) (list_all is_noted xs) h in
     let again = renoted_told tag outcome cs xs known parts.1 in
-    and_from (is_told (if same_tag c.1 tag then outcome else x)) (list_all is_told (renoted tag outcome cs xs))
-    (elim (same_tag c.1 tag) as (λ v. is_told (if v then outcome else x) ≡ true) [ true ↦ known | false ↦ parts.0 ]) again
+    and_from (is_noted (if same_tag c.1 tag then outcome else x)) (list_all is_noted (renoted tag outcome cs xs))
+    (elim (same_tag c.1 tag) as (λ v. is_noted (if v then outcome else x) ≡ true) [ true ↦ known | false ↦ parts.0 ]) again
 
 -- if the command is among them once, one outcome changes
 pub renoted_at : (tag : Tag) (outcome : Outcome) (front back : List Tagged) (c : Tagged) (xs ys : List Outcome) (x : Outcome)
@@ -66,7 +66,7 @@ renoted_at tag outcome front back c xs ys x is front_len back_len none_before no
 -- an outcome that is noted in a request, in its commands to a place from one number on
 noted_from : (tag : Tag) (outcome : Outcome) (place session request : ℕ) → ((session == tag.session) && (request == tag.request)) ≡ true
     → (at ahead : ℕ) (commands : List Routed) (xs : List Outcome) → length xs ≡ length commands → at + ahead ≡ tag.atom
-    → outcomes_from place commands (with_outcome ahead outcome xs) ≡ renoted tag outcome (commands_from place session request at commands) (outcomes_from place commands xs)
+    → outcomes_from place commands (set_outcome ahead outcome xs) ≡ renoted tag outcome (commands_from place session request at commands) (outcomes_from place commands xs)
 noted_from tag outcome place session request own at ahead [] xs h sum = refl
 noted_from tag outcome place session request own at ahead (command ∷ commands) [] h sum = absurd cc
 noted_from tag outcome place session request own at zero (command ∷ commands) (x ∷ xs) h sum =
@@ -86,7 +86,7 @@ noted_from tag outcome place session request own at (suc ahead) (command ∷ com
     and_right ((session == tag.session) && (request == tag.request)) (at == tag.atom) (other_number at tag.atom (λ same. omega (arith, sum, same))) in
     let again = noted_from tag outcome place session request own (suc at) ahead commands xs (cc) (omega (arith, sum)) in
     (elim (command.server == place) as (λ v.
-    (if v then x ∷ outcomes_from place commands (with_outcome ahead outcome xs) else outcomes_from place commands (with_outcome ahead outcome xs))
+    (if v then x ∷ outcomes_from place commands (set_outcome ahead outcome xs) else outcomes_from place commands (set_outcome ahead outcome xs))
     ≡ renoted tag outcome (if v then (command.atom, tag_of session request at) ∷ commands_from place session request (suc at) commands else commands_from place session request (suc at) commands)
     (if v then x ∷ outcomes_from place commands xs else outcomes_from place commands xs)) [
       | true ↦ ap (λ (zs : List Outcome). x ∷ zs) again
@@ -98,7 +98,7 @@ noted_from tag outcome place session request own at (suc ahead) (command ∷ com
 noted_in_entry : (tag : Tag) (outcome : Outcome) (place : ℕ) (e : TakenRequest) → IsSized e → outcomes_in place (note_in tag outcome e) ≡ renoted tag outcome (commands_in place e) (outcomes_in place e)
 noted_in_entry tag outcome place e sized =
     (elim (owns tag e) as (λ v. owns tag e ≡ v
-    → outcomes_from place (route_of_taken e.ring e.what) (if v then with_outcome tag.atom outcome e.outcomes else e.outcomes) ≡ renoted tag outcome (commands_in place e) (outcomes_in place e)) [
+    → outcomes_from place (route_of_taken e.ring e.what) (if v then set_outcome tag.atom outcome e.outcomes else e.outcomes) ≡ renoted tag outcome (commands_in place e) (outcomes_in place e)) [
       | true ↦ λ is. noted_from tag outcome place e.session e.request is 0 tag.atom (route_of_taken e.ring e.what) e.outcomes sized (omega arith)
       | false ↦ λ is. sym (renoted_absent tag outcome (commands_in place e) (outcomes_in place e)
           (count_apart tag place e.session e.request 0 (route_of_taken e.ring e.what) is) (lengths_in place e sized))

@@ -6,19 +6,19 @@ pub use Rattle.mc_table.proofs.NumberedEntryLemmas.{fresh_other, fresh_own, othe
 use Rattle.mc_route.specs.declared.outcomes.Outcome.{Outcome}
 use Rattle.mc_link.specs.declared.turns.Tag.{Tag}
 use Rattle.mc_proxy.specs.SessionState.{SessionState}
-use Rattle.mc_proxy.specs.SessionNoting.{noted_in}
+use Rattle.mc_proxy.specs.SessionNoting.{set_outcome_in_session}
 use Rattle.mc_proxy.specs.ProxyState.{Sessions, session_in, updated}
 use Rattle.mc_proxy.specs.Noting.{noted}
 
 -- the session in which an outcome is noted
 pub noted_own : (tag : Tag) (outcome : Outcome) (open_ones : Sessions)
-    → session_in (noted tag outcome open_ones) tag.session ≡ option_map (noted_in tag outcome) (session_in open_ones tag.session)
+    → session_in (noted tag outcome open_ones) tag.session ≡ option_map (set_outcome_in_session tag outcome) (session_in open_ones tag.session)
 noted_own tag outcome [] = refl
 noted_own tag outcome (s ∷ others) =
     let again = noted_own tag outcome others in
     (elim (s.0 == tag.session) as (λ v. s.0 == tag.session ≡ v
-    → session_in (if v then (s.0, noted_in tag outcome s.1) ∷ others else s ∷ noted tag outcome others) tag.session
-    ≡ option_map (noted_in tag outcome) (if v then Some s.1 else session_in others tag.session)) [
+    → session_in (if v then (s.0, set_outcome_in_session tag outcome s.1) ∷ others else s ∷ noted tag outcome others) tag.session
+    ≡ option_map (set_outcome_in_session tag outcome) (if v then Some s.1 else session_in others tag.session)) [
       | true ↦ λ is. rw is refl
       | false ↦ λ is. rw is again
     ]) refl
@@ -30,7 +30,7 @@ noted_other tag outcome other [] differ = refl
 noted_other tag outcome other (s ∷ others) differ =
     let again = noted_other tag outcome other others differ in
     (elim (s.0 == tag.session) as (λ v. s.0 == tag.session ≡ v
-    → session_in (if v then (s.0, noted_in tag outcome s.1) ∷ others else s ∷ noted tag outcome others) other ≡ session_in (s ∷ others) other) [
+    → session_in (if v then (s.0, set_outcome_in_session tag outcome s.1) ∷ others else s ∷ noted tag outcome others) other ≡ session_in (s ∷ others) other) [
       | true ↦ λ is. let another : (s.0 == other) ≡ false = grind (arith, nat_tests, differ, is) in rw another refl
       | false ↦ λ is. ap (λ (o : Option SessionState). if s.0 == other then Some s.1 else o) again
     ]) refl

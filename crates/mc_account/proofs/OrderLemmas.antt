@@ -6,15 +6,15 @@ use Rattle.std.proofs.lemmas.Bool.{and_from, and_parts}
 use Rattle.std.proofs.lemmas.List.{map-append, length-append, take-append-drop}
 use Rattle.std.proofs.lemmas.List.Elements.{All-nil, All-cons, All-head, All-tail}
 use Rattle.std.proofs.lemmas.List.Folds.{list_all-append}
-use Rattle.mc_request.specs.declared.parts.Taken.{Taken}
+use Rattle.mc_request.specs.declared.parts.Parsed.{Parsed}
 use Rattle.mc_route.specs.Routes.{route_of_taken}
 use Rattle.mc_route.specs.declared.outcomes.Outcome.{Outcome}
 use Rattle.mc_route.specs.declared.routes.Routed.{Routed}
 use Rattle.mc_route.specs.declared.losses.Losses.{Losses}
 use Rattle.mc_link.specs.declared.turns.Tag.{Tag}
-use Rattle.mc_proxy.specs.Emits.{answer_by, is_told}
-use Rattle.mc_proxy.specs.SessionNoting.{with_outcome}
-use Rattle.mc_account.specs.Orders.{TakenRequest, Order, Tagged, AreInOrder, IsSized, answers_of, commands_from, commands_in, commands_to, entries_of, note, note_in, numbers_from, outcomes_from, outcomes_in, outcomes_to, owns, IsToldAs}
+use Rattle.mc_proxy.specs.Emits.{answer_by, is_noted}
+use Rattle.mc_proxy.specs.SessionNoting.{set_outcome}
+use Rattle.mc_account.specs.Orders.{TakenRequest, Order, Tagged, AreInOrder, IsSized, answers_of, commands_from, commands_in, commands_to, entries_of, note, note_in, numbers_from, outcomes_from, outcomes_in, outcomes_to, owns, HasChoice}
 use Rattle.mc_account.proofs.OpenSessions.{own_number, other_number}
 
 -- a test that the elements of two lists pass, the joined list passes
@@ -62,11 +62,11 @@ pub outcomes-push : (place : ℕ) (es : Order) (e : TakenRequest) → outcomes_t
 outcomes-push place es e = outcomes-append place es (e ∷ []) ∙ ap (λ (xs : List Outcome). outcomes_to place es ++ xs) (append-nil (outcomes_in place e))
 
 -- all outcomes of the commands to a place are known, if those taken before and since are
-pub told_whole : (place since : ℕ) (es : Order) → list_all is_told (outcomes_to place (take since es)) ≡ true → list_all is_told (outcomes_to place (drop since es)) ≡ true
-    → list_all is_told (outcomes_to place es) ≡ true
+pub told_whole : (place since : ℕ) (es : Order) → list_all is_noted (outcomes_to place (take since es)) ≡ true → list_all is_noted (outcomes_to place (drop since es)) ≡ true
+    → list_all is_noted (outcomes_to place es) ≡ true
 told_whole place since es before after =
-    let both = passes_joined is_told (outcomes_to place (take since es)) (outcomes_to place (drop since es)) before after in
-    ap (λ (xs : List Outcome). list_all is_told xs)
+    let both = passes_joined is_noted (outcomes_to place (take since es)) (outcomes_to place (drop since es)) before after in
+    ap (λ (xs : List Outcome). list_all is_noted xs)
     (ap (λ (fs : Order). outcomes_to place fs) (sym (take-append-drop since es)) ∙ outcomes-append place (take since es) (drop since es)) ∙ both
 
 -- the answers
@@ -117,7 +117,7 @@ entries-note n tag outcome (e ∷ es) =
 
 pub taken-note : (tag : Tag) (outcome : Outcome) (es : Order) → map (λ (e : TakenRequest). e.what) (note tag outcome es) ≡ map (λ (e : TakenRequest). e.what) es
 taken-note tag outcome [] = refl
-taken-note tag outcome (e ∷ es) = ap (λ (ts : List Taken). e.what ∷ ts) (taken-note tag outcome es)
+taken-note tag outcome (e ∷ es) = ap (λ (ts : List Parsed). e.what ∷ ts) (taken-note tag outcome es)
 
 pub requests-note : (tag : Tag) (outcome : Outcome) (es : Order)
     → map (λ (e : TakenRequest). e.request) (note tag outcome es) ≡ map (λ (e : TakenRequest). e.request) es
@@ -135,15 +135,15 @@ pub commands-note : (place : ℕ) (tag : Tag) (outcome : Outcome) (es : Order) �
 commands-note place tag outcome [] = refl
 commands-note place tag outcome (e ∷ es) = ap (λ (cs : List Tagged). commands_in place e ++ cs) (commands-note place tag outcome es)
 
-length-with_outcome : (at : ℕ) (outcome : Outcome) (xs : List Outcome) → length (with_outcome at outcome xs) ≡ length xs
-length-with_outcome at outcome [] = refl
-length-with_outcome zero outcome (x ∷ xs) = refl
-length-with_outcome (suc at) outcome (x ∷ xs) = ap suc (length-with_outcome at outcome xs)
+length-set_outcome : (at : ℕ) (outcome : Outcome) (xs : List Outcome) → length (set_outcome at outcome xs) ≡ length xs
+length-set_outcome at outcome [] = refl
+length-set_outcome zero outcome (x ∷ xs) = refl
+length-set_outcome (suc at) outcome (x ∷ xs) = ap suc (length-set_outcome at outcome xs)
 
 sized-note_in : (tag : Tag) (outcome : Outcome) (e : TakenRequest) → IsSized e → IsSized (note_in tag outcome e)
 sized-note_in tag outcome e h =
-    (elim (owns tag e) as (λ v. length (if v then with_outcome tag.atom outcome e.outcomes else e.outcomes) ≡ length (route_of_taken e.ring e.what)) [
-      | true ↦ length-with_outcome tag.atom outcome e.outcomes ∙ h
+    (elim (owns tag e) as (λ v. length (if v then set_outcome tag.atom outcome e.outcomes else e.outcomes) ≡ length (route_of_taken e.ring e.what)) [
+      | true ↦ length-set_outcome tag.atom outcome e.outcomes ∙ h
       | false ↦ h
     ])
 
@@ -153,10 +153,10 @@ sized-note tag outcome (e ∷ es) h =
     All-cons IsSized (note_in tag outcome e) (note tag outcome es) (sized-note_in tag outcome e (All-head IsSized e es h)) (sized-note tag outcome es (All-tail IsSized e es h))
 
 -- the choice for lost commands stays if an outcome is noted
-pub chosen-note : (losses : Losses) (tag : Tag) (outcome : Outcome) (es : Order) → All (IsToldAs losses) es → All (IsToldAs losses) (note tag outcome es)
-chosen-note losses tag outcome [] h = All-nil (IsToldAs losses)
+pub chosen-note : (losses : Losses) (tag : Tag) (outcome : Outcome) (es : Order) → All (HasChoice losses) es → All (HasChoice losses) (note tag outcome es)
+chosen-note losses tag outcome [] h = All-nil (HasChoice losses)
 chosen-note losses tag outcome (e ∷ es) h =
-    All-cons (IsToldAs losses) (note_in tag outcome e) (note tag outcome es) (All-head (IsToldAs losses) e es h) (chosen-note losses tag outcome es (All-tail (IsToldAs losses) e es h))
+    All-cons (HasChoice losses) (note_in tag outcome e) (note tag outcome es) (All-head (HasChoice losses) e es h) (chosen-note losses tag outcome es (All-tail (HasChoice losses) e es h))
 
 -- each command to a place has its outcome
 pub lengths_from : (place session request at : ℕ) (commands : List Routed) (xs : List Outcome) → length xs ≡ length commands

@@ -10,7 +10,7 @@ use Rattle.mc_route.specs.declared.outcomes.Outcome.TheVariants.{Awaited, Reply}
 use Rattle.mc_route.specs.declared.routes.Routed.{Routed}
 use Rattle.mc_link.specs.LinkState.{Waiting}
 use Rattle.mc_link.specs.declared.turns.Tag.{Tag}
-use Rattle.mc_proxy.specs.Emits.{is_told}
+use Rattle.mc_proxy.specs.Emits.{is_noted}
 use Rattle.mc_proxy.specs.Sending.{tag_of}
 use Rattle.mc_proxy.specs.SessionState.{link_at}
 use Rattle.mc_proxy.specs.ProxyState.{ProxyState}
@@ -233,7 +233,7 @@ waiting_place place order waiting h k w i is at =
 -- for one session a command with a known outcome was asked before all pending ones
 pub told_before_waiting : (texts sent : ℕ → List ℕ) (order : Order) (lanes : ℕ → Lane) (now : ProxyState) → ProxyHolds texts sent order lanes now
     → (place : ℕ) → (link_at now.links place).up ≡ true
-    → (i : ℕ) (c : Tagged) (x : Outcome) → slice_get (commands_to place order) i ≡ Some c → outcome_at order c.1 ≡ Some x → is_told x ≡ true
+    → (i : ℕ) (c : Tagged) (x : Outcome) → slice_get (commands_to place order) i ≡ Some c → outcome_at order c.1 ≡ Some x → is_noted x ≡ true
     → (k : ℕ) (w : Waiting) → slice_get (link_at now.links place).waiting k ≡ Some w → c.1.session ≡ w.1.session → IsBefore c.1 w.1
 told_before_waiting texts sent order lanes now h place up i c x at known told k w waits same =
     let all = waits_of texts sent order lanes now h place up in
@@ -244,7 +244,7 @@ told_before_waiting texts sent order lanes now h place up i c x at known told k 
       | inr after ↦
           let awaited = each_at (λ (d : Tagged). outcome_at order d.1 ≡ Some Awaited) all.rest after.0 c all.awaited after.1 in
           let is : Awaited ≡ x = same_Some Awaited x (sym awaited ∙ known) in
-          let clash : false ≡ true = ap is_told is ∙ told in absurd cc
+          let clash : false ≡ true = ap is_noted is ∙ told in absurd cc
     ]
 
 -- of two pending commands of a session the older one was asked before

@@ -6,8 +6,8 @@ use Rattle.std.proofs.lemmas.Bool.{and_from, and_left, and_right, cases_lt, eq-e
 use Rattle.std.proofs.lemmas.List.{length-append, length-map, map-append, take-append-drop}
 use Rattle.mc_request_reader.specs.Reader.{rest_of}
 use Rattle.mc_request.specs.Requests.{requests_of}
-use Rattle.mc_request.specs.declared.parts.Taken.{Taken}
-use Rattle.mc_request.specs.declared.parts.Taken.TheVariants.{Whole, Faulty}
+use Rattle.mc_request.specs.declared.parts.Parsed.{Parsed}
+use Rattle.mc_request.specs.declared.parts.Parsed.TheVariants.{Whole, Faulty}
 use Rattle.mc_ring.specs.Rings.{RingState}
 use Rattle.mc_route.specs.Kept.{kept_of}
 use Rattle.mc_route.specs.Routes.{route_of_taken}
@@ -17,7 +17,7 @@ use Rattle.mc_route.specs.declared.losses.Losses.{Losses}
 use Rattle.mc_link.specs.LinkState.{LinkState}
 use Rattle.mc_link.specs.declared.turns.Tag.{Tag}
 use Rattle.mc_proxy.specs.Emits.{answer_by, answer_of_one, emitted, emitted_from}
-use Rattle.mc_proxy.specs.SessionNoting.{noted_at, noted_in, with_outcome}
+use Rattle.mc_proxy.specs.SessionNoting.{set_outcome, set_outcome_in_session, set_outcome_of_request}
 use Rattle.mc_proxy.specs.Sending.{at_once}
 use Rattle.mc_proxy.specs.SessionState.{SessionState, Unanswered, answered, fresh_session}
 use Rattle.mc_proxy.specs.SessionTurns.{IsFed, Takes}
@@ -87,7 +87,7 @@ pub session_fed : (number : ℕ) (order : Order) (text sent piece : List ℕ) (b
     → SessionHolds number order text sent before → IsFed piece before after → SessionHolds number order (text ++ piece) sent after
 session_fed number order text sent piece before after h fed = record {
   rest = λ more.
-      ap (λ (ts : List Taken). taken_of number order ++ ts) (fed.rest more)
+      ap (λ (ts : List Parsed). taken_of number order ++ ts) (fed.rest more)
       ∙ h.rest (piece ++ more) ∙ ap requests_of (sym (append_assoc text piece more));
   done = h.done;
   incomplete = h.incomplete;
@@ -99,7 +99,7 @@ session_fed number order text sent piece before after h fed = record {
 }
 
 -- a turn takes the first of the rest
-pub session_took : (number : ℕ) (order : Order) (text sent : List ℕ) (ring : RingState) (losses : Losses) (links now : List LinkState) (before after : SessionState) (what : Taken)
+pub session_took : (number : ℕ) (order : Order) (text sent : List ℕ) (ring : RingState) (losses : Losses) (links now : List LinkState) (before after : SessionState) (what : Parsed)
     → SessionHolds number order text sent before → Takes number ring losses links now before after what
     → SessionHolds number
     (order ++ (record { session = number; request = before.taken; what = what; ring = ring; losses = losses; outcomes = map (at_once links) (route_of_taken ring what) }) ∷ []) text sent after
@@ -111,9 +111,9 @@ session_took number order text sent ring losses links now before after what h ta
     record {
       rest = λ more.
           ap (λ (es : Order). map (λ (x : TakenRequest). x.what) es ++ rest_of after.reader more) mine
-          ∙ ap (λ (ts : List Taken). ts ++ rest_of after.reader more) (map-append (λ (x : TakenRequest). x.what) (entries_of number order) (e ∷ []))
+          ∙ ap (λ (ts : List Parsed). ts ++ rest_of after.reader more) (map-append (λ (x : TakenRequest). x.what) (entries_of number order) (e ∷ []))
           ∙ append_assoc (taken_of number order) (what ∷ []) (rest_of after.reader more)
-          ∙ ap (λ (ts : List Taken). taken_of number order ++ ts) (sym (takes.first.rest more))
+          ∙ ap (λ (ts : List Parsed). taken_of number order ++ ts) (sym (takes.first.rest more))
           ∙ h.rest more;
       done = h.done;
       incomplete = h.incomplete ++ e ∷ [];
@@ -146,7 +146,7 @@ session_sent number order text sent session count h = record {
 }
 
 -- a data block plays no part in an answer
-answer_kept : (losses : Losses) (what : Taken) (outcomes : List Outcome) → answer_by losses (kept_of what) outcomes ≡ answer_by losses what outcomes
+answer_kept : (losses : Losses) (what : Parsed) (outcomes : List Outcome) → answer_by losses (kept_of what) outcomes ≡ answer_by losses what outcomes
 answer_kept losses (Whole request) outcomes = with-kept losses request outcomes
 answer_kept losses (Faulty fault) outcomes = refl
 
@@ -211,7 +211,7 @@ note_absent tag outcome [] none = refl
 note_absent tag outcome (e ∷ es) none =
     let again = λ (rest : owners tag es ≡ 0). note_absent tag outcome es rest in
     (elim (owns tag e) as (λ v. weight v + owners tag es ≡ 0
-    → record e { outcomes = if v then with_outcome tag.atom outcome e.outcomes else e.outcomes } ∷ note tag outcome es ≡ e ∷ es) [
+    → record e { outcomes = if v then set_outcome tag.atom outcome e.outcomes else e.outcomes } ∷ note tag outcome es ≡ e ∷ es) [
       | true ↦ λ sum. absurd (omega (arith, sum))
       | false ↦ λ sum. ap (λ (xs : Order). e ∷ xs) (again (omega (arith, sum)))
     ]) none
@@ -232,7 +232,7 @@ owners_elsewhere tag number (e ∷ es) differ =
 
 -- an outcome is noted at its place among the unanswered requests
 noted_among : (tag : Tag) (outcome : Outcome) (at : ℕ) (es : Order) → AreOf tag.session es → map (λ (e : TakenRequest). e.request) es ≡ numbers_from at es → at ≤ tag.request
-    → map unanswered_of (note tag outcome es) ≡ noted_at (tag.request - at) tag.atom outcome (map unanswered_of es)
+    → map unanswered_of (note tag outcome es) ≡ set_outcome_of_request (tag.request - at) tag.atom outcome (map unanswered_of es)
 noted_among tag outcome at [] whose numbered h = refl
 noted_among tag outcome at (e ∷ es) whose numbered h =
     let here : e.request ≡ at = cc in
@@ -241,16 +241,16 @@ noted_among tag outcome at (e ∷ es) whose numbered h =
     (λ (later : at < tag.request).
     let apart : owns tag e ≡ false = and_right (e.session == tag.session) (e.request == tag.request) (other_number e.request tag.request (λ same. omega (arith, here, same, later))) in
     let next : tag.request - at ≡ suc (tag.request - suc at) = omega (arith, later) in
-    ap (λ (v : Bool). unanswered_of (record e { outcomes = if v then with_outcome tag.atom outcome e.outcomes else e.outcomes }) ∷ map unanswered_of (note tag outcome es)) apart
+    ap (λ (v : Bool). unanswered_of (record e { outcomes = if v then set_outcome tag.atom outcome e.outcomes else e.outcomes }) ∷ map unanswered_of (note tag outcome es)) apart
     ∙ ap (λ (us : List Unanswered). unanswered_of e ∷ us) (noted_among tag outcome (suc at) es whose.1 past later)
-    ∙ ap (λ (n : ℕ). noted_at n tag.atom outcome (unanswered_of e ∷ map unanswered_of es)) (sym next))
+    ∙ ap (λ (n : ℕ). set_outcome_of_request n tag.atom outcome (unanswered_of e ∷ map unanswered_of es)) (sym next))
     (λ (not_later : tag.request ≤ at).
     let own : owns tag e ≡ true = and_from (e.session == tag.session) (e.request == tag.request) whose.0 (eq-eqb e.request tag.request (omega (arith, here, h, not_later))) in
     let none : tag.request - at ≡ 0 = omega (arith, not_later) in
-    ap (λ (v : Bool). unanswered_of (record e { outcomes = if v then with_outcome tag.atom outcome e.outcomes else e.outcomes }) ∷ map unanswered_of (note tag outcome es)) own
-    ∙ ap (λ (xs : Order). unanswered_of (record e { outcomes = with_outcome tag.atom outcome e.outcomes }) ∷ map unanswered_of xs)
+    ap (λ (v : Bool). unanswered_of (record e { outcomes = if v then set_outcome tag.atom outcome e.outcomes else e.outcomes }) ∷ map unanswered_of (note tag outcome es)) own
+    ∙ ap (λ (xs : Order). unanswered_of (record e { outcomes = set_outcome tag.atom outcome e.outcomes }) ∷ map unanswered_of xs)
     (note_absent tag outcome es (owners_later tag (suc at) es past (omega (arith, not_later))))
-    ∙ ap (λ (n : ℕ). noted_at n tag.atom outcome (unanswered_of e ∷ map unanswered_of es)) (sym none))
+    ∙ ap (λ (n : ℕ). set_outcome_of_request n tag.atom outcome (unanswered_of e ∷ map unanswered_of es)) (sym none))
     (cases_lt at tag.request)
 
 -- the entry of a tag that is not complete is not among those that are
@@ -287,7 +287,7 @@ noted_taken tag outcome number order =
 noted_unanswered : (tag : Tag) (outcome : Outcome) (session : SessionState) (done incomplete : Order) → AreOf tag.session incomplete
     → map (λ (e : TakenRequest). e.request) incomplete ≡ numbers_from (length done) incomplete → session.unanswered ≡ map unanswered_of incomplete
     → session.taken ≡ length done + length incomplete → 1 ≤ owners tag incomplete
-    → noted_in tag outcome session ≡ record session { unanswered = map unanswered_of (note tag outcome incomplete) }
+    → set_outcome_in_session tag outcome session ≡ record session { unanswered = map unanswered_of (note tag outcome incomplete) }
 noted_unanswered tag outcome session done incomplete whose numbered unanswered taken there =
     let many : length session.unanswered ≡ length incomplete = ap (λ (us : List Unanswered). length us) unanswered ∙ length-map incomplete unanswered_of in
     let first : answered session ≡ length done = omega (arith, many, taken) in
@@ -295,14 +295,15 @@ noted_unanswered tag outcome session done incomplete whose numbered unanswered t
     ⊎_elim (λ (early : tag.request < length done). absurd (omega (arith, owners_later tag (length done) incomplete numbered early, there))) (λ (fine : length done ≤ tag.request). fine)
     (cases_lt tag.request (length done)) in
     let not_answered : nat_lt tag.request (answered session) ≡ false = le-ltb tag.request (answered session) (omega (arith, first, late)) in
-    ap (λ (v : Bool). if v then session else record session { unanswered = noted_at (tag.request - answered session) tag.atom outcome session.unanswered }) not_answered
-    ∙ ap₂ (λ (n : ℕ) (us : List Unanswered). record session { unanswered = noted_at (tag.request - n) tag.atom outcome us }) first unanswered
+    ap (λ (v : Bool). if v then session else record session { unanswered = set_outcome_of_request (tag.request - answered session) tag.atom outcome session.unanswered }) not_answered
+    ∙ ap₂ (λ (n : ℕ) (us : List Unanswered). record session { unanswered = set_outcome_of_request (tag.request - n) tag.atom outcome us }) first unanswered
     ∙ ap (λ (us : List Unanswered). record session { unanswered = us }) (sym (noted_among tag outcome (length done) incomplete whose numbered late))
 
 -- an outcome is noted that was pending: the session of its tag
 pub session_noted : (tag : Tag) (outcome : Outcome) (order : Order) (text sent : List ℕ) (session : SessionState) → AreInOrder (entries_of tag.session order)
     → owners tag order ≤ 1 → 1 ≤ incomplete_owners tag order
-    → SessionHolds tag.session order text sent session → SessionHolds tag.session (note tag outcome order) text sent (noted_in tag outcome session)
+    → SessionHolds tag.session order text sent session
+    → SessionHolds tag.session (note tag outcome order) text sent (set_outcome_in_session tag outcome session)
 session_noted tag outcome order text sent session numbered once open_one h =
     let n = not_done tag order h.done h.incomplete h.split h.complete once open_one in
     let whose = are_of_after tag.session h.done h.incomplete (subst (λ (es : Order). AreOf tag.session es) h.split (are_of tag.session order)) in
@@ -314,7 +315,7 @@ session_noted tag outcome order text sent session numbered once open_one h =
     let split = noted_split tag outcome order h.done h.incomplete h.split n.absent in
     record {
       rest = λ more.
-          ap₂ (λ (ts : List Taken) (s : SessionState). ts ++ rest_of s.reader more) (noted_taken tag outcome tag.session order) now ∙ h.rest more;
+          ap₂ (λ (ts : List Parsed) (s : SessionState). ts ++ rest_of s.reader more) (noted_taken tag outcome tag.session order) now ∙ h.rest more;
       done = h.done;
       incomplete = note tag outcome h.incomplete;
       split = split;
@@ -323,7 +324,7 @@ session_noted tag outcome order text sent session numbered once open_one h =
       unanswered = ap (λ (s : SessionState). s.unanswered) now;
       taken =
           let longer : length (entries_of tag.session (note tag outcome order)) ≡ length (h.done ++ note tag outcome h.incomplete) = ap (λ (es : Order). length es) split in
-          let same : (noted_in tag outcome session).taken ≡ session.taken = ap (λ (s : SessionState). s.taken) now in
+          let same : (set_outcome_in_session tag outcome session).taken ≡ session.taken = ap (λ (s : SessionState). s.taken) now in
           omega (arith, same, size, longer, length-append h.done (note tag outcome h.incomplete), length-map h.incomplete (note_in tag outcome));
     }
 
@@ -334,7 +335,7 @@ left_noted tag outcome order text sent once open_one h =
     let n = not_done tag order h.done h.incomplete h.split h.complete once open_one in
     record {
       untaken = h.untaken;
-      rest = ap (λ (ts : List Taken). ts ++ h.untaken) (noted_taken tag outcome tag.session order) ∙ h.rest;
+      rest = ap (λ (ts : List Parsed). ts ++ h.untaken) (noted_taken tag outcome tag.session order) ∙ h.rest;
       done = h.done;
       incomplete = note tag outcome h.incomplete;
       split = noted_split tag outcome order h.done h.incomplete h.split n.absent;

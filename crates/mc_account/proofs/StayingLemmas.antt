@@ -9,7 +9,7 @@ use Rattle.mc_route.specs.declared.outcomes.Outcome.{Outcome}
 use Rattle.mc_route.specs.declared.outcomes.Outcome.TheVariants.{Awaited, Lost, Reply}
 use Rattle.mc_link.specs.LinkState.{Waiting}
 use Rattle.mc_link.specs.declared.turns.Tag.{Tag}
-use Rattle.mc_proxy.specs.Emits.{is_told}
+use Rattle.mc_proxy.specs.Emits.{is_noted}
 use Rattle.mc_proxy.specs.SessionState.{link_at}
 use Rattle.mc_proxy.specs.LinkTurns.{Answers}
 use Rattle.mc_proxy.specs.ProxyState.{ProxyState}
@@ -25,14 +25,14 @@ use Rattle.mc_account.proofs.LookupLemmas.{all_waiting_are_awaited, answered_was
 use Rattle.mc_account.proofs.SessionLemmas.{note_absent, owners_elsewhere}
 
 -- of outcomes that are all known, each is
-told_at : (xs : List Outcome) (k : ℕ) (x : Outcome) → list_all is_told xs ≡ true → slice_get xs k ≡ Some x → is_told x ≡ true
+told_at : (xs : List Outcome) (k : ℕ) (x : Outcome) → list_all is_noted xs ≡ true → slice_get xs k ≡ Some x → is_noted x ≡ true
 told_at [] zero x known at = absurd (none-some x at)
 told_at [] (suc k) x known at = absurd (none-some x at)
-told_at (y ∷ ys) zero x known at = subst (λ (z : Outcome). is_told z ≡ true) (same_Some y x at) (and_parts (is_told y) (list_all is_told ys) known).0
-told_at (y ∷ ys) (suc k) x known at = told_at ys k x (and_parts (is_told y) (list_all is_told ys) known).1 at
+told_at (y ∷ ys) zero x known at = subst (λ (z : Outcome). is_noted z ≡ true) (same_Some y x at) (and_parts (is_noted y) (list_all is_noted ys) known).0
+told_at (y ∷ ys) (suc k) x known at = told_at ys k x (and_parts (is_noted y) (list_all is_noted ys) known).1 at
 
 -- entries, the first `count` of which are complete
-complete_at : (es : Order) (count k atom : ℕ) (x : Outcome) → list_all is_complete (take count es) ≡ true → k < count → outcome_in (slice_get es k) atom ≡ Some x → is_told x ≡ true
+complete_at : (es : Order) (count k atom : ℕ) (x : Outcome) → list_all is_complete (take count es) ≡ true → k < count → outcome_in (slice_get es k) atom ≡ Some x → is_noted x ≡ true
 complete_at [] count zero atom x complete below at = absurd (none-some x at)
 complete_at [] count (suc k) atom x complete below at = absurd (none-some x at)
 complete_at (e ∷ es) zero k atom x complete below at = absurd (omega (arith, below))

@@ -9,7 +9,7 @@ use Rattle.mc_route.specs.Routes.{route_of_taken}
 use Rattle.mc_route.specs.declared.outcomes.Outcome.{Outcome}
 use Rattle.mc_route.specs.declared.routes.Routed.{Routed}
 use Rattle.mc_link.specs.declared.turns.Tag.{Tag}
-use Rattle.mc_proxy.specs.Emits.{is_told}
+use Rattle.mc_proxy.specs.Emits.{is_noted}
 use Rattle.mc_proxy.specs.Sending.{tag_of}
 use Rattle.mc_account.specs.Orders.{TakenRequest, Order, Tagged, AreInOrder, IsSized, commands_from, commands_in, commands_to, entries_of, is_complete, numbers_from, outcomes_from, outcomes_in, outcomes_to, owns}
 use Rattle.mc_account.proofs.OpenSessions.{own_number, other_number}
@@ -213,7 +213,7 @@ incomplete_none tag (e ∷ es) h =
 abbrev pub awaited : Tag → List Tagged → List Outcome → ℕ
 awaited tag [] xs = 0
 awaited tag (c ∷ cs) [] = 0
-awaited tag (c ∷ cs) (x ∷ xs) = weight (not (is_told x) && same_tag c.1 tag) + awaited tag cs xs
+awaited tag (c ∷ cs) (x ∷ xs) = weight (not (is_noted x) && same_tag c.1 tag) + awaited tag cs xs
 
 pub awaited-append : (tag : Tag) (cs ds : List Tagged) (xs ys : List Outcome) → length cs ≡ length xs
     → awaited tag (cs ++ ds) (xs ++ ys) ≡ awaited tag cs xs + awaited tag ds ys
@@ -225,25 +225,25 @@ awaited-append tag (c ∷ cs) ds (x ∷ xs) ys h = omega (arith, awaited-append 
 awaited-le : (tag : Tag) (cs : List Tagged) (xs : List Outcome) → awaited tag cs xs ≤ count tag cs
 awaited-le tag [] xs = omega arith
 awaited-le tag (c ∷ cs) [] = omega arith
-awaited-le tag (c ∷ cs) (x ∷ xs) = omega (arith, incomplete_weight (is_told x) (same_tag c.1 tag), awaited-le tag cs xs)
+awaited-le tag (c ∷ cs) (x ∷ xs) = omega (arith, incomplete_weight (is_noted x) (same_tag c.1 tag), awaited-le tag cs xs)
 
-awaited_none : (tag : Tag) (cs : List Tagged) (xs : List Outcome) → list_all is_told xs ≡ true → awaited tag cs xs ≡ 0
+awaited_none : (tag : Tag) (cs : List Tagged) (xs : List Outcome) → list_all is_noted xs ≡ true → awaited tag cs xs ≡ 0
 awaited_none tag [] xs h = refl
 awaited_none tag (c ∷ cs) [] h = refl
 awaited_none tag (c ∷ cs) (x ∷ xs) h =
-    let parts = and_parts (is_told x) (list_all is_told xs) h in
-    let apart : (not (is_told x) && same_tag c.1 tag) ≡ false = and_left (not (is_told x)) (same_tag c.1 tag) (ap not parts.0) in
+    let parts = and_parts (is_noted x) (list_all is_noted xs) h in
+    let apart : (not (is_noted x) && same_tag c.1 tag) ≡ false = and_left (not (is_noted x)) (same_tag c.1 tag) (ap not parts.0) in
     rw apart (omega (arith, awaited_none tag cs xs parts.1))
 
 -- outcomes that are known of all commands of a request are known of those to a place
-pub told_from : (place : ℕ) (commands : List Routed) (xs : List Outcome) → list_all is_told xs ≡ true → list_all is_told (outcomes_from place commands xs) ≡ true
+pub told_from : (place : ℕ) (commands : List Routed) (xs : List Outcome) → list_all is_noted xs ≡ true → list_all is_noted (outcomes_from place commands xs) ≡ true
 told_from place [] xs h = refl
 told_from place (command ∷ commands) [] h = refl
 told_from place (command ∷ commands) (x ∷ xs) h =
-    let parts = and_parts (is_told x) (list_all is_told xs) h in
+    let parts = and_parts (is_noted x) (list_all is_noted xs) h in
     let again = told_from place commands xs parts.1 in
-    (elim (command.server == place) as (λ v. list_all is_told (if v then x ∷ outcomes_from place commands xs else outcomes_from place commands xs) ≡ true) [
-      | true ↦ and_from (is_told x) (list_all is_told (outcomes_from place commands xs)) parts.0 again
+    (elim (command.server == place) as (λ v. list_all is_noted (if v then x ∷ outcomes_from place commands xs else outcomes_from place commands xs) ≡ true) [
+      | true ↦ and_from (is_noted x) (list_all is_noted (outcomes_from place commands xs)) parts.0 again
       | false ↦ again
     ])
 

@@ -8,7 +8,7 @@ use Rattle.mc_route.specs.declared.outcomes.Outcome.{Outcome}
 use Rattle.mc_route.specs.declared.routes.Routed.{Routed}
 use Rattle.mc_link.specs.LinkState.{Waiting}
 use Rattle.mc_link.specs.declared.turns.Tag.{Tag}
-use Rattle.mc_proxy.specs.Emits.{is_told}
+use Rattle.mc_proxy.specs.Emits.{is_noted}
 use Rattle.mc_proxy.specs.Sending.{tag_of}
 use Rattle.mc_proxy.specs.SessionState.{link_at}
 use Rattle.mc_proxy.specs.ProxyState.{ProxyState}
@@ -105,7 +105,7 @@ command_is_there place order numbered tag atom there =
 -- for one session, a command to a place with a known outcome was asked before all pending ones on its link
 pub known_before_waiting : (texts sent : ℕ → List ℕ) (order : Order) (lanes : ℕ → Lane) (now : ProxyState) → ProxyHolds texts sent order lanes now
     → (place : ℕ) → (link_at now.links place).up ≡ true
-    → (tag : Tag) (atom : Atom (List ℕ)) (x : Outcome) → command_at order tag ≡ Some (to_place place atom) → outcome_at order tag ≡ Some x → is_told x ≡ true
+    → (tag : Tag) (atom : Atom (List ℕ)) (x : Outcome) → command_at order tag ≡ Some (to_place place atom) → outcome_at order tag ≡ Some x → is_noted x ≡ true
     → (k : ℕ) (w : Waiting) → slice_get (link_at now.links place).waiting k ≡ Some w → tag.session ≡ w.1.session → IsBefore tag w.1
 known_before_waiting texts sent order lanes now h place up tag atom x there known told k w waits same =
     let i = command_is_there place order h.numbered tag atom there in

@@ -3,10 +3,10 @@ use Rattle.std.specs.Prelude.{ℕ, ◌≡◌, ◌≤◌, ◌==◌, true, List, [
 use Rattle.std.specs.List.{list_all}
 use Rattle.mc_request_reader.specs.Reader.{rest_of}
 use Rattle.mc_request.specs.Requests.{requests_of}
-use Rattle.mc_request.specs.declared.parts.Taken.{Taken}
+use Rattle.mc_request.specs.declared.parts.Parsed.{Parsed}
 use Rattle.mc_proxy.specs.SessionState.{SessionState, link_at}
 use Rattle.mc_proxy.specs.ProxyState.{ProxyState, session_at}
-use Rattle.mc_account.specs.Orders.{Order, AreInOrder, IsSized, IsToldAs, answers_of, entries_of, is_complete, taken_of, unanswered_of}
+use Rattle.mc_account.specs.Orders.{Order, AreInOrder, IsSized, HasChoice, answers_of, entries_of, is_complete, taken_of, unanswered_of}
 use Rattle.mc_account.specs.Lanes.{Lane, LinkHolds}
 
 -- The session of a number after a text has arrived and these bytes were consumed: what was taken of it is the first of the
@@ -24,7 +24,7 @@ pub record SessionHolds (number : ℕ) (order : Order) (text sent : List ℕ) (s
 
 -- The session of a number after it has left: the bytes consumed are the first of the answers to its first requests.
 pub record SessionLeft (number : ℕ) (order : Order) (text sent : List ℕ) : Type 0 where
-  pub untaken : List Taken
+  pub untaken : List Parsed
   pub rest : taken_of number order ++ untaken ≡ requests_of text
   pub done : Order
   pub incomplete : Order
@@ -49,7 +49,7 @@ pub record IsUnused (number : ℕ) (order : Order) (text sent : List ℕ) (sessi
 -- number, and this passed over its links, by place.
 pub record ProxyHolds (texts sent : ℕ → List ℕ) (order : Order) (lanes : ℕ → Lane) (proxy : ProxyState) : Type 0 where
   pub sized : All IsSized order
-  pub chosen : All (IsToldAs proxy.losses) order
+  pub chosen : All (HasChoice proxy.losses) order
   pub numbered : (number : ℕ) → AreInOrder (entries_of number order)
   pub sessions : (number : ℕ) → SessionHoldsAt number order (texts number) (sent number) (session_at proxy number)
   pub unused : (number : ℕ) → proxy.admitted ≤ number → IsUnused number order (texts number) (sent number) (session_at proxy number)

@@ -8,7 +8,7 @@ use Rattle.mc_reply.specs.declared.replies.Reply.{Reply as AReply}
 use Rattle.mc_route.specs.declared.outcomes.Outcome.TheVariants.{Awaited, Reply}
 use Rattle.mc_codec.specs.Spellings.{spelling_of_atom}
 use Rattle.mc_link.specs.LinkState.{LinkState, Waiting, down_link}
-use Rattle.mc_proxy.specs.Emits.{is_told}
+use Rattle.mc_proxy.specs.Emits.{is_noted}
 use Rattle.mc_account.specs.Orders.{Order, Tagged, commands_to, outcomes_to}
 
 -- since a link came up: how many requests had been taken then, the replies that were taken, the bytes that were consumed for its
@@ -23,16 +23,20 @@ pub record Lane : Type 0 where
 abbrev pub fresh_lane : ℕ → Lane
 fresh_lane since = record { since = since; replies = []; out = []; came = [] }
 
+-- the commands that were sent on a lane: those to its server, of all requests that were taken since its link came up, in that order
+abbrev pub sent_on : ℕ → Order → Lane → List Tagged
+sent_on place order lane = commands_to place (drop lane.since order)
+
 -- the spellings of commands, joined
 abbrev pub spelled : List Tagged → List ℕ
 spelled [] = []
 spelled (command ∷ commands) = spelling_of_atom command.0 ++ spelled commands
 
 -- the spellings of replies to the first of these commands, joined
-abbrev pub told : List Tagged → List (AReply (List ℕ)) → List ℕ
-told commands [] = []
-told [] (reply ∷ replies) = []
-told (command ∷ commands) (reply ∷ replies) = spelling_of (head_of command.0) reply ++ told commands replies
+abbrev pub replies_text : List Tagged → List (AReply (List ℕ)) → List ℕ
+replies_text commands [] = []
+replies_text [] (reply ∷ replies) = []
+replies_text (command ∷ commands) (reply ∷ replies) = spelling_of (head_of command.0) reply ++ replies_text commands replies
 
 -- each is a reply that its command can have
 abbrev pub CanHave : List Tagged → List (AReply (List ℕ)) → Type 0
@@ -49,17 +53,17 @@ as_waiting commands = map (λ command. (head_of command.0, command.1)) commands
 -- unread bytes. The commands without a reply are pending. No earlier command to it is pending.
 pub record LaneHolds (place : ℕ) (order : Order) (lane : Lane) (link : LinkState) : Type 0 where
   pub since : lane.since ≤ length order
-  pub put : lane.out ++ link.output ≡ spelled (commands_to place (drop lane.since order))
-  pub came : lane.came ≡ told (commands_to place (drop lane.since order)) lane.replies ++ link.unread
-  pub can : CanHave (commands_to place (drop lane.since order)) lane.replies
-  pub waiting : link.waiting ≡ as_waiting (drop (length lane.replies) (commands_to place (drop lane.since order)))
+  pub put : lane.out ++ link.output ≡ spelled (sent_on place order lane)
+  pub came : lane.came ≡ replies_text (sent_on place order lane) lane.replies ++ link.unread
+  pub can : CanHave (sent_on place order lane) lane.replies
+  pub waiting : link.waiting ≡ as_waiting (drop (length lane.replies) (sent_on place order lane))
   pub outcomes : outcomes_to place (drop lane.since order) ≡ map (λ reply. Reply reply) lane.replies ++ map (λ _. Awaited) link.waiting
-  pub before : list_all is_told (outcomes_to place (take lane.since order)) ≡ true
+  pub before : list_all is_noted (outcomes_to place (take lane.since order)) ≡ true
 
 -- no command to a link that is down is pending
 pub record IsDown (place : ℕ) (order : Order) (link : LinkState) : Type 0 where
   pub nothing : link ≡ down_link link.generation
-  pub outcomes : list_all is_told (outcomes_to place order) ≡ true
+  pub outcomes : list_all is_noted (outcomes_to place order) ≡ true
 
 -- the state of the link at a place
 abbrev pub LinkHolds : ℕ → Order → Lane → LinkState → Type 0

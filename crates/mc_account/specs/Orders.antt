@@ -2,7 +2,7 @@
 use Rattle.std.specs.Prelude.{ℕ, suc, ◌≡◌, ◌==◌, ◌&&◌, Bool, List, [], ◌∷◌, ◌++◌, length, map, if◌then◌else◌}
 use Rattle.std.specs.List.{list_all}
 use Rattle.mc_request.specs.declared.parts.Atom.{Atom}
-use Rattle.mc_request.specs.declared.parts.Taken.{Taken}
+use Rattle.mc_request.specs.declared.parts.Parsed.{Parsed}
 use Rattle.mc_ring.specs.Rings.{RingState}
 use Rattle.mc_route.specs.Kept.{kept_of}
 use Rattle.mc_route.specs.Routes.{route_of_taken}
@@ -10,8 +10,8 @@ use Rattle.mc_route.specs.declared.losses.Losses.{Losses}
 use Rattle.mc_route.specs.declared.outcomes.Outcome.{Outcome}
 use Rattle.mc_route.specs.declared.routes.Routed.{Routed}
 use Rattle.mc_link.specs.declared.turns.Tag.{Tag}
-use Rattle.mc_proxy.specs.Emits.{answer_by, is_told}
-use Rattle.mc_proxy.specs.SessionNoting.{with_outcome}
+use Rattle.mc_proxy.specs.Emits.{answer_by, is_noted}
+use Rattle.mc_proxy.specs.SessionNoting.{set_outcome}
 use Rattle.mc_proxy.specs.Sending.{tag_of}
 use Rattle.mc_proxy.specs.SessionState.{Unanswered}
 
@@ -20,7 +20,7 @@ use Rattle.mc_proxy.specs.SessionState.{Unanswered}
 pub record TakenRequest : Type 0 where
   pub session : ℕ
   pub request : ℕ
-  pub what : Taken
+  pub what : Parsed
   pub ring : RingState
   pub losses : Losses
   pub outcomes : List Outcome
@@ -34,7 +34,7 @@ abbrev pub entries_of : ℕ → Order → Order
 entries_of session [] = []
 entries_of session (e ∷ es) = if e.session == session then e ∷ entries_of session es else entries_of session es
 
-abbrev pub taken_of : ℕ → Order → List Taken
+abbrev pub taken_of : ℕ → Order → List Parsed
 taken_of session order = map (λ e. e.what) (entries_of session order)
 
 -- a number of consecutive numbers, from one on
@@ -84,12 +84,12 @@ abbrev pub IsSized : TakenRequest → Type 0
 IsSized e = length e.outcomes ≡ length (route_of_taken e.ring e.what)
 
 -- an entry's lost commands are answered by this choice
-abbrev pub IsToldAs : Losses → TakenRequest → Type 0
-IsToldAs losses e = e.losses ≡ losses
+abbrev pub HasChoice : Losses → TakenRequest → Type 0
+HasChoice losses e = e.losses ≡ losses
 
 -- whether the outcome of each command of an entry is known
 abbrev pub is_complete : TakenRequest → Bool
-is_complete e = list_all is_told e.outcomes
+is_complete e = list_all is_noted e.outcomes
 
 -- whether a tag is of a command of an entry
 abbrev pub owns : Tag → TakenRequest → Bool
@@ -98,7 +98,7 @@ owns tag e = (e.session == tag.session) && (e.request == tag.request)
 -- the outcome of a command, noted in its entry
 abbrev pub note_in : Tag → Outcome → TakenRequest → TakenRequest
 note_in tag outcome e = record e {
-  outcomes = if owns tag e then with_outcome tag.atom outcome e.outcomes else e.outcomes;
+  outcomes = if owns tag e then set_outcome tag.atom outcome e.outcomes else e.outcomes;
 }
 
 abbrev pub note : Tag → Outcome → Order → Order

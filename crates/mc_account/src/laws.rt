@@ -10,7 +10,7 @@ ghost use Rattle.mc_route.specs.declared.outcomes.Outcome.TheVariants.{Awaited, 
 ghost use Rattle.mc_route.specs.declared.routes.Routed.{Routed};
 ghost use Rattle.mc_link.specs.LinkState.{Waiting, can_come_back, up_link};
 ghost use Rattle.mc_link.specs.declared.turns.Tag.{Tag};
-ghost use Rattle.mc_proxy.specs.Emits.{IsEmit, is_told};
+ghost use Rattle.mc_proxy.specs.Emits.{IsEmit, is_noted};
 ghost use Rattle.mc_proxy.specs.Sending.{at_once};
 ghost use Rattle.mc_proxy.specs.SessionState.{answered, link_at, with_link};
 ghost use Rattle.mc_proxy.specs.SessionTurns.{IsFed, IsTurn};
@@ -191,7 +191,7 @@ pub fn waiting_commands_are_awaited()
         → IsAwaited place order waiting }
     ensures all { (texts sent : ℕ → List ℕ) (order : Order) (lanes : ℕ → Lane) (now : ProxyState)
         → ProxyHolds texts sent order lanes now → (place : ℕ) → (link_at now.links place).up ≡ true
-        → (outcome : Outcome) → is_told outcome ≡ true
+        → (outcome : Outcome) → is_noted outcome ≡ true
         → AreAwaited (map (λ waiting. waiting.1) (link_at now.links place).waiting) outcome order }
     ensures replied { (texts sent : ℕ → List ℕ) (order : Order) (lanes : ℕ → Lane) (place : ℕ) (old new : ProxyState)
         → ProxyHolds texts sent order lanes old → (link_at old.links place).up ≡ true → (answers : Answers place old new)
@@ -267,13 +267,13 @@ pub fn known_commands_come_first()
     ensures known { (texts sent : ℕ → List ℕ) (order : Order) (lanes : ℕ → Lane) (now : ProxyState)
         → ProxyHolds texts sent order lanes now → (place : ℕ) → (link_at now.links place).up ≡ true
         → (i : ℕ) (command : Tagged) (outcome : Outcome) → slice_get (commands_to place order) i ≡ Some command
-        → outcome_at order command.1 ≡ Some outcome → is_told outcome ≡ true
+        → outcome_at order command.1 ≡ Some outcome → is_noted outcome ≡ true
         → (k : ℕ) (waiting : Waiting) → slice_get (link_at now.links place).waiting k ≡ Some waiting
         → command.1.session ≡ waiting.1.session → IsBefore command.1 waiting.1 }
     ensures named { (texts sent : ℕ → List ℕ) (order : Order) (lanes : ℕ → Lane) (now : ProxyState)
         → ProxyHolds texts sent order lanes now → (place : ℕ) → (link_at now.links place).up ≡ true
         → (tag : Tag) (atom : Atom (List ℕ)) (outcome : Outcome) → command_at order tag ≡ Some (to_place place atom)
-        → outcome_at order tag ≡ Some outcome → is_told outcome ≡ true
+        → outcome_at order tag ≡ Some outcome → is_noted outcome ≡ true
         → (k : ℕ) (waiting : Waiting) → slice_get (link_at now.links place).waiting k ≡ Some waiting
         → tag.session ≡ waiting.1.session → IsBefore tag waiting.1 }
     ensures waiting { (texts sent : ℕ → List ℕ) (order : Order) (lanes : ℕ → Lane) (now : ProxyState)

@@ -6,9 +6,9 @@ use Rattle.httparse.specs.declared.Status.TheVariants.{Complete}
 use Rattle.httparse.specs.Grammar.{RequestHead, ReadsRequest}
 use Rattle.httparse.specs.Spans.{IsRequestAt, IsRequestOf, FindsRequest, header_bytes, span_bytes}
 use Rattle.http1.specs.Fields.{Header, values_named}
-use Rattle.mc_admin.specs.Asked.{ReadsPage, asked_by, asked_by_head}
-use Rattle.mc_admin.specs.declared.asked.Page.{Page}
-use Rattle.mc_admin.specs.declared.asked.Refusal.{Refusal}
+use Rattle.mc_admin.specs.AdminRequests.{ReadsPage, asked_by, asked_by_head}
+use Rattle.mc_admin.specs.declared.admin_requests.Page.{Page}
+use Rattle.mc_admin.specs.declared.admin_requests.Refusal.{Refusal}
 use Rattle.mc_admin.specs.declared.hosts.Hosts.{Hosts}
 use Rattle.mc_admin.specs.declared.heads.TheConstants.{FIELD_LIMIT}
 

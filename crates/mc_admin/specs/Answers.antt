@@ -5,11 +5,11 @@ use Rattle.http1.specs.Head.{response_text}
 use Rattle.mc_admin.specs.Pages.{stats_text, settings_text, metrics_text, end_line}
 use Rattle.mc_admin.specs.Conns.{part_text}
 use Rattle.mc_admin.specs.declared.conns.Part.{Part}
-use Rattle.mc_admin.specs.declared.asked.AdminRequest.{AdminRequest}
-use Rattle.mc_admin.specs.declared.asked.AdminRequest.TheVariants.{Stats, Settings, Conns, Nothing, Version, Quit, Unknown, TooLong, Shown, Refused}
-use Rattle.mc_admin.specs.declared.asked.Page.TheVariants.{Overview, Metrics, Health}
-use Rattle.mc_admin.specs.declared.asked.Refusal.{Refusal}
-use Rattle.mc_admin.specs.declared.asked.Refusal.TheVariants.{BadRequest, NotFound, NotAllowed, NoBody, Misdirected, TooLarge}
+use Rattle.mc_admin.specs.declared.admin_requests.AdminRequest.{AdminRequest}
+use Rattle.mc_admin.specs.declared.admin_requests.AdminRequest.TheVariants.{Stats, Settings, Conns, Nothing, Version, Quit, Unknown, TooLong, Shown, Refused}
+use Rattle.mc_admin.specs.declared.admin_requests.Page.TheVariants.{Overview, Metrics, Health}
+use Rattle.mc_admin.specs.declared.admin_requests.Refusal.{Refusal}
+use Rattle.mc_admin.specs.declared.admin_requests.Refusal.TheVariants.{BadRequest, NotFound, NotAllowed, NoBody, Misdirected, TooLarge}
 use Rattle.mc_admin.specs.declared.figures.Sheet.{Sheet}
 use Rattle.mc_admin.specs.declared.overview.TheConstants.{OVERVIEW, POLICY}
 

@@ -4,6 +4,6 @@ pub mod Lists
 pub mod Conns
 pub mod Requests
 pub mod Hosts
-pub mod Asked
+pub mod AdminRequests
 pub mod Answers
 pub mod Talks

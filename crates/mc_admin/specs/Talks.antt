@@ -1,9 +1,9 @@
 -- A connection: its request so far, the bytes that were read and are not taken, and the unsent output.
 use Rattle.std.specs.Prelude.{◌≡◌, ℕ, Bool, true, false, List, [], Option, Some, None}
 use Rattle.mc_admin.specs.Requests.{InboxState, fresh_inbox, taking}
-use Rattle.mc_admin.specs.Asked.{Asks, ends}
+use Rattle.mc_admin.specs.AdminRequests.{Asks, ends}
 use Rattle.mc_admin.specs.Answers.{answer_to, is_listed_on}
-use Rattle.mc_admin.specs.declared.asked.AdminRequest.{AdminRequest}
+use Rattle.mc_admin.specs.declared.admin_requests.AdminRequest.{AdminRequest}
 use Rattle.mc_admin.specs.declared.figures.Sheet.{Sheet}
 use Rattle.mc_admin.specs.declared.hosts.Hosts.{Hosts}
 

@@ -2,9 +2,9 @@
 ghost use Rattle.std.specs.Prelude.{◌≡◌, ◌++◌, [], IfOk, OnOk, codes};
 ghost use Rattle.http1.specs.Head.{pairs, header_parts};
 ghost use Rattle.mc_admin.specs.Answers.{answer_to, is_listed_on, response, fields_of, overview_fields, metrics_type, plain_type, status_of, reason_of, words_of};
-ghost use Rattle.mc_admin.specs.Asked.{ends};
+ghost use Rattle.mc_admin.specs.AdminRequests.{ends};
 
-use crate::asked::{AdminRequest, Page, Refusal};
+use crate::admin_requests::{AdminRequest, Page, Refusal};
 use crate::conns::push_part;
 use crate::errors::AdminError;
 use crate::figures::Sheet;

@@ -2,9 +2,9 @@
 ghost use Rattle.std.specs.Prelude.{◌≡◌, ℕ, ◌++◌, ◌∷◌, ◌==◌, List, [], length, map, codes, All, IfOk};
 ghost use Rattle.httparse.specs.Spans.{IsHeaderWithin, header_bytes};
 ghost use Rattle.http1.specs.Fields.{values_named};
-ghost use Rattle.mc_admin.specs.Asked.{ReadsPage, asked_by, page_for, page_of_target, page_at, IsFound};
+ghost use Rattle.mc_admin.specs.AdminRequests.{ReadsPage, asked_by, page_for, page_of_target, page_at, IsFound};
 
-use crate::asked::{Page, Refusal};
+use crate::admin_requests::{Page, Refusal};
 use crate::hosts::{Hosts, before, host_of};
 use http1::text::eq_ignore_case;
 use httparse::Status;

@@ -2,8 +2,8 @@
 //! the answer. A [`Talk`] is one operator's connection, and a [`Sheet`] what the program reports of itself.
 #![tactic(auto)]
 
+mod admin_requests;
 mod answers;
-mod asked;
 mod conns;
 mod errors;
 mod figures;
@@ -18,8 +18,8 @@ mod overview;
 mod pages;
 mod talks;
 
+pub use admin_requests::{AdminRequest, Page, Refusal};
 pub use answers::{answer_to, ends, is_listed_on};
-pub use asked::{AdminRequest, Page, Refusal};
 pub use conns::{Conn, Part};
 pub use errors::AdminError;
 pub use figures::{Figure, Setting, Sheet, Value};

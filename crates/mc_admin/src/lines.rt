@@ -1,8 +1,8 @@
 //! What a request asks for, once it has ended.
 ghost use Rattle.std.specs.Prelude.{◌≡◌};
-ghost use Rattle.mc_admin.specs.Asked.{Asks, ReadsPage, shown, named, content_of, without_blanks};
+ghost use Rattle.mc_admin.specs.AdminRequests.{Asks, ReadsPage, shown, named, content_of, without_blanks};
 
-use crate::asked::{AdminRequest, Page, Refusal};
+use crate::admin_requests::{AdminRequest, Page, Refusal};
 use crate::heads::page_of;
 use crate::hosts::Hosts;
 use crate::inboxes::{Inbox, Phase, without_carriage_return};

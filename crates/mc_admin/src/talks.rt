@@ -1,8 +1,8 @@
 //! A connection of an operator, without its socket.
 ghost use Rattle.std.specs.Prelude.{◌≤◌, length, vec_len, vec_capacity};
 
+use crate::admin_requests::AdminRequest;
 use crate::answers::{answer_to, ends, is_listed_on};
-use crate::asked::AdminRequest;
 use crate::errors::AdminError;
 use crate::figures::Sheet;
 use crate::hosts::Hosts;

@@ -51,8 +51,8 @@ item_shown show moment marks (Some body) = Meta (shown_of show moment marks body
 -- the reply to an update as the reply to a meta command: what was stored is shown, and nothing of what was deleted; any
 -- other reply is the same for a meta command
 -- source: protocol.txt, "Meta Set", "Meta Delete", "Meta Arithmetic"
-abbrev pub told : Show → ℕ → Marks → Option Body → Reply (List ℕ) → Reply (List ℕ)
-told show moment marks held Stored = item_shown show moment marks held
-told show moment marks held (Number number) = item_shown show moment marks held
-told show moment marks held Deleted = Meta nothing_shown None
-told show moment marks held reply = reply
+abbrev pub meta_reply_of : Show → ℕ → Marks → Option Body → Reply (List ℕ) → Reply (List ℕ)
+meta_reply_of show moment marks held Stored = item_shown show moment marks held
+meta_reply_of show moment marks held (Number number) = item_shown show moment marks held
+meta_reply_of show moment marks held Deleted = Meta nothing_shown None
+meta_reply_of show moment marks held reply = reply

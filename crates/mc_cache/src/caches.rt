@@ -5,6 +5,7 @@ ghost use Rattle.mc_cache.specs.CacheState.{IsWithinBounds, HasRoom};
 
 mod counting;
 mod meta;
+mod owned;
 mod putting;
 mod retrieving;
 mod settling;
@@ -12,8 +13,8 @@ mod storing;
 
 use mc_item::{CasCounter, Deadline};
 use mc_reply::Reply;
-use mc_request::{Atom, MetaCommand, MetaGet, Show, Update};
-use mc_store::Store;
+use mc_request::{MetaGet, Show, Update};
+use mc_store::{Hint, Store};
 use mc_text::{Block, Key};
 use std::alloc::{AllocError, Global};
 use std::marker::Model;
@@ -33,6 +34,8 @@ pub fn is_within_bounds(budget: u64, limit: usize) -> bool
 }
 
 /// A cache over a store. Contracts see its items, its counter, its pending flush, and its bounds.
+///
+/// A command whose key is borrowed takes a hint of its item's slot ([`Hint`]), which affects only the speed.
 #[derive(Drop)]
 pub struct Cache<S: Store + Drop> {
     alloc: Global,
@@ -104,34 +107,13 @@ impl<S: Store + Drop> Cache<S> {
         self.is_short = is_short;
     }
 
-    /// Executes one command at a moment, in seconds since 1970. Its key and its block are owned.
-    ///
-    /// It takes memory only if it stores a key that is not stored yet, or makes a stored value longer. If there is
-    /// none the reply is `Fault::OutOfMemory`, and nothing changes except what the moment causes: a flush that is
-    /// due, and the removal of the key's expired item.
-    pub fn step(&mut self, atom: Atom<Block>, moment: u64) -> Reply<()>
-        requires { moment < 2 ^ 63 }
-        ensures step { step_of self.old atom moment (is_refusal result)
-            ≡ (self.new, filled result (value_after atom self.new)) }
-        ensures refusal { is_refusal result ≡ true → may_refuse self.old atom moment ≡ true }
-    {
-        match atom {
-            Atom::Get {
-                key,
-                exptime,
-                with_cas,
-            } => self.get(key.as_bytes(), exptime, with_cas, moment),
-            Atom::Update(update) => self.update_by_own(update, moment),
-            Atom::Meta(command) => self.meta_by_own(command, moment),
-        }
-    }
-
     /// Executes `Get`, with the key borrowed. It takes no memory, and no value gets longer.
     ///
     /// The item that a hit shows is first: [`Cache::front_value`] is its value.
     pub fn get(
         &mut self,
         key: &[u8],
+        hint: Hint,
         exptime: Option<i64>,
         with_cas: bool,
         moment: u64,
@@ -145,28 +127,7 @@ impl<S: Store + Drop> Cache<S> {
         ensures shrinks { (other : List ℕ)
             → length (value_at other self.new.items) ≤ length (value_at other self.old.items) }
     {
-        self.get_by(key, 0, exptime, with_cas, moment)
-    }
-
-    /// Executes `Get`, as [`Cache::get`] does, given a guess of the key's item ([`Cache::guess_all`]). A guess affects only the speed.
-    pub fn get_by(
-        &mut self,
-        key: &[u8],
-        guess: u32,
-        exptime: Option<i64>,
-        with_cas: bool,
-        moment: u64,
-    ) -> Reply<()>
-        requires { moment < 2 ^ 63 }
-        ensures step { step_of self.old (Get key.now exptime with_cas) moment false
-            ≡ (self.new, filled result (value_after (Get key.now exptime with_cas) self.new)) }
-        ensures front { step_of self.old (Get key.now exptime with_cas) moment false
-            ≡ (self.new, filled result (front_value self.new.items)) }
-        ensures refusal { is_refusal result ≡ false }
-        ensures shrinks { (other : List ℕ)
-            → length (value_at other self.new.items) ≤ length (value_at other self.old.items) }
-    {
-        let Some(found) = self.settle_in_front(key, guess, moment) else {
+        let Some(found) = self.settle_in_front(key, hint, moment) else {
             self.store.retrieved(false);
             return Reply::Miss;
         };
@@ -179,14 +140,14 @@ impl<S: Store + Drop> Cache<S> {
         }
     }
 
-    /// Executes `Get` without an exptime, given a guess of the key's item. It returns what a hit shows beside its value: the client
-    /// flags, and the number if it is asked for. None is a miss. [`Cache::get_by`] executes the same command.
+    /// Executes `Get` without an exptime. It returns what a hit shows beside its value: the client flags, and the number if it is asked
+    /// for. None is a miss. [`Cache::get`] executes the same command.
     ///
     /// It is for values that are sent without a copy: the item that a hit shows is first, and [`Cache::front_value`] is its value.
     pub fn get_head(
         &mut self,
         key: &[u8],
-        guess: u32,
+        hint: Hint,
         with_cas: bool,
         moment: u64,
     ) -> Option<(u32, Option<u64>)>
@@ -196,7 +157,7 @@ impl<S: Store + Drop> Cache<S> {
         ensures miss { IfNone result (step_of self.old (Get key.now None with_cas) moment false ≡ (self.new, Miss)) }
         ensures fits { OnSome result (length (front_value self.new.items) ≤ length (value_at key.now self.old.items)) }
     {
-        let Some(found) = self.settle_in_front(key, guess, moment) else {
+        let Some(found) = self.settle_in_front(key, hint, moment) else {
             self.store.retrieved(false);
             return None;
         };
@@ -204,15 +165,15 @@ impl<S: Store + Drop> Cache<S> {
         Some((found.flags, with_cas.then_some(found.cas)))
     }
 
-    /// Returns whether [`Cache::guess_all`] guesses: several items are found faster together than each by itself.
-    pub fn guesses(&self) -> bool {
-        self.store.guesses()
+    /// Returns whether [`Cache::prefetch`] prefetches: several items are found faster together than each by itself.
+    pub fn prefetches(&self) -> bool {
+        self.store.prefetches()
     }
 
-    /// Prefetches: loads the entries of keys, and writes a guess of each key's item (0 is none), for the calls that take a guess. It changes
-    /// nothing else, and takes no memory. The returned byte only keeps the loads alive ([`Store::guess_all`]).
-    pub fn guess_all(&self, keys: &[&[u8]], guesses: &mut [u32]) -> u8 {
-        self.store.guess_all(keys, guesses)
+    /// Prefetches: loads the items of keys, and writes a hint of each key's item, [`Hint::none`] if there is no such item. It changes nothing
+    /// else, and takes no memory. The returned byte only keeps the loads alive ([`Store::prefetch`]).
+    pub fn prefetch(&self, keys: &[&[u8]], hints: &mut [Hint]) -> u8 {
+        self.store.prefetch(keys, hints)
     }
 
     /// Executes `Update`, with the key and the block borrowed. Its reply shows no value.
@@ -227,31 +188,7 @@ impl<S: Store + Drop> Cache<S> {
     pub fn update(
         &mut self,
         update: &Update<&[u8], &[u8]>,
-        moment: u64,
-    ) -> Result<Reply<()>, AllocError>
-        requires moment { moment < 2 ^ 63 }
-        requires key { HasKey (update_seen update.now) }
-        ensures step { IfOk result (λ reply. (value : List ℕ)
-            → step_of self.old (AnUpdate (update_seen update.now)) moment (is_refusal reply)
-            ≡ (self.new, filled reply value)) }
-        ensures refusal { IfOk result (λ reply.
-            is_refusal reply ≡ true → may_refuse self.old (AnUpdate (update_seen update.now)) moment ≡ true) }
-        ensures err { OnErr result (self.new ≡ self.old) }
-        ensures cause { OnErr result (takes_block self.old (update_seen update.now) moment ≡ true) }
-    {
-        self.update_by(update, 0, moment)
-    }
-
-    /// Executes `Update`, as [`Cache::update`] does, given a guess of the key's item ([`Cache::guess_all`]). A guess
-    /// affects only the speed.
-    ///
-    /// # Errors
-    ///
-    /// As those of [`Cache::update`].
-    pub fn update_by(
-        &mut self,
-        update: &Update<&[u8], &[u8]>,
-        guess: u32,
+        hint: Hint,
         moment: u64,
     ) -> Result<Reply<()>, AllocError>
         requires moment { moment < 2 ^ 63 }
@@ -279,15 +216,15 @@ impl<S: Store + Drop> Cache<S> {
                     won: false,
                     block,
                 };
-                self.store_lent(*mode, *compare, key, guess, lent, moment)
+                self.store_lent(*mode, *compare, key, hint, lent, moment)
             }
-            Update::Touch { key, exptime } => Ok(self.touch(key, guess, *exptime, moment)),
+            Update::Touch { key, exptime } => Ok(self.touch(key, hint, *exptime, moment)),
             Update::Delete {
                 key,
                 compare,
                 invalidate,
-            } => Ok(self.delete(key, guess, *compare, *invalidate, moment)),
-            Update::Count { key, counting } => Ok(self.count(key, guess, counting, moment)),
+            } => Ok(self.delete(key, hint, *compare, *invalidate, moment)),
+            Update::Count { key, counting } => Ok(self.count(key, hint, counting, moment)),
             Update::FlushAll { delay } => Ok(self.flush_all(*delay, moment)),
         }
     }
@@ -312,7 +249,7 @@ impl<S: Store + Drop> Cache<S> {
             → may_refuse self.old (AnUpdate (AStore Set None key flags exptime block)) moment ≡ true }
     {
         let body = own_body(flags, exptime, block, moment);
-        let found = self.settle(key.as_bytes(), 0, moment);
+        let found = self.settle(key.as_bytes(), Hint::none(), moment);
         self.set_own(key, body, found)
     }
 
@@ -321,7 +258,7 @@ impl<S: Store + Drop> Cache<S> {
     /// It takes memory only if the key is not stored and an item is made. If there is none the reply is
     /// `Fault::OutOfMemory`, and nothing changes except what the moment causes. The item whose value the reply shows
     /// is first: [`Cache::front_value`] is its value.
-    pub fn meta_get(&mut self, key: &[u8], get: &MetaGet, moment: u64) -> Reply<()>
+    pub fn meta_get(&mut self, key: &[u8], hint: Hint, get: &MetaGet, moment: u64) -> Reply<()>
         requires moment { moment < 2 ^ 63 }
         requires key { is_key key.now ≡ true }
         ensures step { step_of self.old (AMeta (AMetaGet key.now get.now)) moment (is_refusal result)
@@ -333,23 +270,7 @@ impl<S: Store + Drop> Cache<S> {
         ensures shrinks { (other : List ℕ)
             → length (value_at other self.new.items) ≤ length (value_at other self.old.items) }
     {
-        self.meta_get_by(key, 0, get, moment)
-    }
-
-    /// Executes `mg`, as [`Cache::meta_get`] does, given a guess of the key's item ([`Cache::guess_all`]). A guess affects only the speed.
-    pub fn meta_get_by(&mut self, key: &[u8], guess: u32, get: &MetaGet, moment: u64) -> Reply<()>
-        requires moment { moment < 2 ^ 63 }
-        requires key { is_key key.now ≡ true }
-        ensures step { step_of self.old (AMeta (AMetaGet key.now get.now)) moment (is_refusal result)
-            ≡ (self.new, filled result (value_after (AMeta (AMetaGet key.now get.now)) self.new)) }
-        ensures front { step_of self.old (AMeta (AMetaGet key.now get.now)) moment (is_refusal result)
-            ≡ (self.new, filled result (front_value self.new.items)) }
-        ensures refusal { is_refusal result ≡ true
-            → may_refuse self.old (AMeta (AMetaGet key.now get.now)) moment ≡ true }
-        ensures shrinks { (other : List ℕ)
-            → length (value_at other self.new.items) ≤ length (value_at other self.old.items) }
-    {
-        self.show(key, guess, get, moment)
+        self.show(key, hint, get, moment)
     }
 
     /// Executes the meta command `Update`, which is `ms`, `md` or `ma`, with the key and the block borrowed. It
@@ -363,6 +284,7 @@ impl<S: Store + Drop> Cache<S> {
     pub fn meta_update(
         &mut self,
         update: &Update<&[u8], &[u8]>,
+        hint: Hint,
         show: &Show,
         moment: u64,
     ) -> Result<Reply<()>, AllocError>
@@ -379,84 +301,8 @@ impl<S: Store + Drop> Cache<S> {
         ensures err { OnErr result (self.new ≡ self.old) }
         ensures cause { OnErr result (takes_block self.old (update_seen update.now) moment ≡ true) }
     {
-        self.meta_update_by(update, 0, show, moment)
-    }
-
-    /// Executes a meta command, as [`Cache::meta_update`] does, given a guess of the key's item ([`Cache::guess_all`]). A guess
-    /// affects only the speed.
-    ///
-    /// # Errors
-    ///
-    /// As those of [`Cache::meta_update`].
-    pub fn meta_update_by(
-        &mut self,
-        update: &Update<&[u8], &[u8]>,
-        guess: u32,
-        show: &Show,
-        moment: u64,
-    ) -> Result<Reply<()>, AllocError>
-        requires moment { moment < 2 ^ 63 }
-        requires key { HasKey (update_seen update.now) }
-        ensures step { IfOk result (λ reply.
-            step_of self.old (AMeta (AMetaUpdate (update_seen update.now) show.now)) moment (is_refusal reply)
-            ≡ (self.new, filled reply (value_after (AMeta (AMetaUpdate (update_seen update.now) show.now)) self.new))) }
-        ensures front { IfOk result (λ reply.
-            step_of self.old (AMeta (AMetaUpdate (update_seen update.now) show.now)) moment (is_refusal reply)
-            ≡ (self.new, filled reply (front_value self.new.items))) }
-        ensures refusal { IfOk result (λ reply. is_refusal reply ≡ true
-            → may_refuse self.old (AMeta (AMetaUpdate (update_seen update.now) show.now)) moment ≡ true) }
-        ensures err { OnErr result (self.new ≡ self.old) }
-        ensures cause { OnErr result (takes_block self.old (update_seen update.now) moment ≡ true) }
-    {
-        let reply = self.update_by(update, guess, moment)?;
+        let reply = self.update(update, hint, moment)?;
         Ok(self.tell(reply, show, moment))
-    }
-
-    /// Executes a meta command whose key and block are owned.
-    fn meta_by_own(&mut self, command: MetaCommand<Key, Block>, moment: u64) -> Reply<()>
-        requires { moment < 2 ^ 63 }
-        ensures step { step_of self.old (AMeta command) moment (is_refusal result)
-            ≡ (self.new, filled result (value_after (AMeta command) self.new)) }
-        ensures refusal { is_refusal result ≡ true → may_refuse self.old (AMeta command) moment ≡ true }
-    {
-        match command {
-            MetaCommand::Get { key, get } => self.meta_get(key.as_bytes(), &get, moment),
-            MetaCommand::Update { update, show } => {
-                let reply = self.update_by_own(update, moment);
-                self.tell(reply, &show, moment)
-            }
-        }
-    }
-
-    /// Executes `Update`, whose key and block are owned. Its reply shows no value.
-    fn update_by_own(&mut self, update: Update<Key, Block>, moment: u64) -> Reply<()>
-        requires { moment < 2 ^ 63 }
-        ensures step { (value : List ℕ) → step_of self.old (AnUpdate update) moment (is_refusal result)
-            ≡ (self.new, filled result value) }
-        ensures refusal { is_refusal result ≡ true → may_refuse self.old (AnUpdate update) moment ≡ true }
-    {
-        match update {
-            Update::Store {
-                mode,
-                compare,
-                key,
-                flags,
-                exptime,
-                block,
-            } => {
-                let body = own_body(flags, exptime, block, moment);
-                let found = self.settle(key.as_bytes(), 0, moment);
-                self.store_own(mode, compare, key, body, found)
-            }
-            Update::Touch { key, exptime } => self.touch(key.as_bytes(), 0, exptime, moment),
-            Update::Delete {
-                key,
-                compare,
-                invalidate,
-            } => self.delete(key.as_bytes(), 0, compare, invalidate, moment),
-            Update::Count { key, counting } => self.count(key.as_bytes(), 0, &counting, moment),
-            Update::FlushAll { delay } => self.flush_all(delay, moment),
-        }
     }
 
     /// Returns the value under a key.

@@ -37,7 +37,7 @@ use Rattle.mc_store.specs.Items.{body_at, brought}
 use Rattle.mc_cache.specs.CacheState.{CacheState, opening_cache}
 use Rattle.mc_cache.specs.Replay.{Command, command_step}
 use Rattle.mc_cache.specs.Settling.{settled, emptied}
-use Rattle.mc_cache.specs.Showing.{shown_of, marks_of, told}
+use Rattle.mc_cache.specs.Showing.{shown_of, marks_of, meta_reply_of}
 use Rattle.mc_cache.specs.Step.{StepResult, Content, numbered, unstored, unmet, compared, content_by, fronted, stored, store_step, touched, expiry_by, get_step, touch_step, delete_step, counted, count_step, count_none, flush_step, update_step, made_by, looked_at, meta_get_none, meta_get_step, meta_step, settled_step, step_of, atom_key}
 use Rattle.mc_cache_laws.specs.GoodCaches.{IsGoodBody, IsGoodCache, IsGoodCommand, StaysGood, AnswersAsItCan, AnswersEachAsItCan}
 use Rattle.std.specs.List.{All}
@@ -91,7 +91,7 @@ record IsGoodEnd (update : Update (List ℕ) (List ℕ)) (o : StepResult) : Type
 
 record IsGoodMetaEnd (update : Update (List ℕ) (List ℕ)) (show : Show) (moment : ℕ) (key : List ℕ) (o : StepResult) : Type 0 where
   cache : IsGoodCache o.0
-  reply : can_have_meta (metas.Update update show) (told show moment Plain (body_at key o.0.items) o.1) ≡ true
+  reply : can_have_meta (metas.Update update show) (meta_reply_of show moment Plain (body_at key o.0.items) o.1) ≡ true
 
 -- what a storage command answers if it stores nothing
 unmet_is : (mode : StoreMode) (held : Option Body) (key : List ℕ) (compare : Option ℕ) (flags : ℕ) (exptime : ℤ) (block : List ℕ)
@@ -118,23 +118,23 @@ answer_is mode (Some number) (Some body) key flags exptime block =
 
 -- a meta command is answered so too
 told_answer_is : (mode : StoreMode) (compare : Option ℕ) (held after : Option Body) (key : List ℕ) (flags : ℕ) (exptime : ℤ) (block : List ℕ) (show : Show) (moment : ℕ)
-    → IfSome (unstored compare mode held) (λ reply. can_have_meta (metas.Update (Store mode compare key flags exptime block) show) (told show moment Plain after reply) ≡ true)
+    → IfSome (unstored compare mode held) (λ reply. can_have_meta (metas.Update (Store mode compare key flags exptime block) show) (meta_reply_of show moment Plain after reply) ≡ true)
 told_answer_is mode (Some number) None after key flags exptime block show moment = refl
 told_answer_is mode (Some number) (Some body) after key flags exptime block show moment =
     cond_both (body.cas == number) None (Some Exists)
     (λ a. IfSome (option_or a (unmet mode (Some body)))
-    (λ reply. can_have_meta (metas.Update (Store mode (Some number) key flags exptime block) show) (told show moment Plain after reply) ≡ true))
+    (λ reply. can_have_meta (metas.Update (Store mode (Some number) key flags exptime block) show) (meta_reply_of show moment Plain after reply) ≡ true))
     (λ same. elim mode as (λ m. IfSome (unmet m (Some body))
-    (λ reply. can_have_meta (metas.Update (Store m (Some number) key flags exptime block) show) (told show moment Plain after reply) ≡ true))
+    (λ reply. can_have_meta (metas.Update (Store m (Some number) key flags exptime block) show) (meta_reply_of show moment Plain after reply) ≡ true))
     [ Set ↦ tt | Add ↦ refl | Replace ↦ tt | Append ↦ tt | Prepend ↦ tt ])
     (λ other. refl)
 told_answer_is mode None None after key flags exptime block show moment =
     elim mode as (λ m. IfSome (unmet m None)
-    (λ reply. can_have_meta (metas.Update (Store m None key flags exptime block) show) (told show moment Plain after reply) ≡ true))
+    (λ reply. can_have_meta (metas.Update (Store m None key flags exptime block) show) (meta_reply_of show moment Plain after reply) ≡ true))
     [ Set ↦ tt | Add ↦ tt | Replace ↦ refl | Append ↦ refl | Prepend ↦ refl ]
 told_answer_is mode None (Some body) after key flags exptime block show moment =
     elim mode as (λ m. IfSome (unmet m (Some body))
-    (λ reply. can_have_meta (metas.Update (Store m None key flags exptime block) show) (told show moment Plain after reply) ≡ true))
+    (λ reply. can_have_meta (metas.Update (Store m None key flags exptime block) show) (meta_reply_of show moment Plain after reply) ≡ true))
     [ Set ↦ tt | Add ↦ refl | Replace ↦ tt | Append ↦ tt | Prepend ↦ tt ]
 
 -- storage commands
@@ -163,7 +163,7 @@ store_is_good_for_meta s mode compare key held new refused flags exptime block s
     store-ends (IsGoodMetaEnd update show moment key) s compare mode key held new refused
     (λ reply is. record {
       cache = fronted_is_good s key good;
-      reply = at_some (λ r. can_have_meta (metas.Update update show) (told show moment Plain (body_at key (fronted s key).items) r) ≡ true) (unstored compare mode held) reply is
+      reply = at_some (λ r. can_have_meta (metas.Update update show) (meta_reply_of show moment Plain (body_at key (fronted s key).items) r) ≡ true) (unstored compare mode held) reply is
           (told_answer_is mode compare held (body_at key (fronted s key).items) key flags exptime block show moment);
     })
     (λ is. record {
@@ -392,7 +392,7 @@ made_expiry (Some exptime) create moment makes fits early = deadline_is_good exp
 
 record IsGoodMadeEnd (key : List ℕ) (get : MetaGet) (moment : ℕ) (o : StepResult) : Type 0 where
   cache : IsGoodCache o.0
-  reply : can_have_meta {K = List ℕ} {B = List ℕ} (metas.Get key get) (told get.show moment Won (body_at key o.0.items) o.1) ≡ true
+  reply : can_have_meta {K = List ℕ} {B = List ℕ} (metas.Get key get) (meta_reply_of get.show moment Won (body_at key o.0.items) o.1) ≡ true
 
 meta_made_is_good : (s : CacheState) (key : List ℕ) (get : MetaGet) (create : Option ℤ) (moment : ℕ) (refused : Bool) → get.create ≡ create → is_where_some is_i64 create ≡ true
     → is_where_some is_i64 get.exptime ≡ true → moment < 2 ^ 63 → IsGoodCache s

@@ -29,11 +29,11 @@ use Rattle.mc_store.specs.Items.{Items, body_at, without, brought, kept, item_co
 use Rattle.mc_store.proofs.ItemLemmas.{body_at-without, body_at-brought}
 use Rattle.mc_store.proofs.KeptLemmas.{kept-first, kept-begins}
 use Rattle.mc_cache.specs.CacheState.{CacheState, IsHeldWithin}
-use Rattle.mc_cache.specs.Showing.{item_shown, marks_of, told}
+use Rattle.mc_cache.specs.Showing.{item_shown, marks_of, meta_reply_of}
 use Rattle.mc_cache.specs.Step.{StepResult, Content, numbered, unmet, content_by, compared, fronted, store_step, touched, expiry_by, get_step, touch_step, delete_step, counted, count_none, count_step, update_step, made_by, looked_at, meta_get_none, meta_get_step, held_under, settled_step, stored, atom_key}
 use Rattle.mc_cache.proofs.HeldLemmas.{body_at-own, body_at-other, without-own, held-without, held-changed, held-brought, held-put}
 use Rattle.mc_cache.proofs.StoredLemmas.{own_key}
-use Rattle.mc_cache_laws.specs.OneMap.{KeyOutcome, put, store_key, get_key, touch_key, delete_key, count_no_key, count_held, count_key, update_key, told_key, meta_get_no_key, meta_get_key, key_step}
+use Rattle.mc_cache_laws.specs.OneMap.{KeyOutcome, put, store_key, get_key, touch_key, delete_key, count_no_key, count_held, count_key, update_key, as_meta, meta_get_no_key, meta_get_key, key_step}
 use Rattle.mc_cache_laws.specs.MapLaws.{is_unnumbered, is_of_map, is_refused_store, IsUnflushed, unnumbered, map_of}
 use Rattle.mc_cache_laws.proofs.OutcomeLemmas.{EndsStored, IsAdmitted, with_content, number_content, stored-ends, store-ends, deleted-ends, counted-ends}
 use Rattle.mc_cache_laws.proofs.ShownLemmas.{first_item}
@@ -221,19 +221,19 @@ shown-unnumbered : (show : Show) (moment : ℕ) (marks : Marks) (body : Body) �
     → item_shown show moment marks (Some body) ≡ item_shown show moment marks (Some (unnumbered body))
 shown-unnumbered show moment marks body hides = rw hides refl
 
-told-unnumbered : (show : Show) (moment : ℕ) (marks : Marks) (held : Option Body) (reply : Reply (List ℕ)) → show.cas ≡ false
-    → told show moment marks held reply ≡ told show moment marks (option_map unnumbered held) reply
-told-unnumbered show moment marks None reply hides = refl
-told-unnumbered show moment marks (Some body) reply hides = grind (arith, shown-unnumbered)
+meta_reply_of-unnumbered : (show : Show) (moment : ℕ) (marks : Marks) (held : Option Body) (reply : Reply (List ℕ)) → show.cas ≡ false
+    → meta_reply_of show moment marks held reply ≡ meta_reply_of show moment marks (option_map unnumbered held) reply
+meta_reply_of-unnumbered show moment marks None reply hides = refl
+meta_reply_of-unnumbered show moment marks (Some body) reply hides = grind (arith, shown-unnumbered)
 
 -- an error line is shown as it is
-told-refusal : (show : Show) (moment : ℕ) (marks : Marks) (held : Option Body) (reply : Reply (List ℕ)) → is_refused_store (told show moment marks held reply) ≡ false → is_refused_store reply ≡ false
-told-refusal show moment marks held reply answered = grind arith
+meta_reply_of-refusal : (show : Show) (moment : ℕ) (marks : Marks) (held : Option Body) (reply : Reply (List ℕ)) → is_refused_store (meta_reply_of show moment marks held reply) ≡ false → is_refused_store reply ≡ false
+meta_reply_of-refusal show moment marks held reply answered = grind arith
 
 -- a meta command follows if its update does
-told-follows : (s : CacheState) (key : List ℕ) (show : Show) (moment : ℕ) (marks : Marks) (expected : KeyOutcome) (o : StepResult) → show.cas ≡ false
-    → Follows s key expected o → Follows s key (told_key show moment marks expected) (o.0, told show moment marks (body_at key o.0.items) o.1)
-told-follows s key show moment marks expected o hides follows answered many = grind (arith, told-unnumbered, told-refusal)
+meta_reply_of-follows : (s : CacheState) (key : List ℕ) (show : Show) (moment : ℕ) (marks : Marks) (expected : KeyOutcome) (o : StepResult) → show.cas ≡ false
+    → Follows s key expected o → Follows s key (as_meta show moment marks expected) (o.0, meta_reply_of show moment marks (body_at key o.0.items) o.1)
+meta_reply_of-follows s key show moment marks expected o hides follows answered many = grind (arith, meta_reply_of-unnumbered, meta_reply_of-refusal)
 
 -- `mg`
 meta_get_none-follows : (s : CacheState) (key : List ℕ) (get : MetaGet) (create : Option ℤ) (moment : ℕ) (refused : Bool) → get.show.cas ≡ false → body_at key s.items ≡ None → IsUnflushed s
@@ -241,7 +241,7 @@ meta_get_none-follows : (s : CacheState) (key : List ℕ) (get : MetaGet) (creat
 meta_get_none-follows s key get None moment refused hides is good = λ answered many. subst (λ h. Matches s key (option_map unnumbered h, Miss) (s, Miss)) is (same-matches s key Miss good)
 meta_get_none-follows s key get (Some create) moment refused hides is good =
     let content : Content = made_by get.exptime create moment in
-    told-follows s key get.show moment Won (put content Stored) (stored s key content refused Stored) hides
+    meta_reply_of-follows s key get.show moment Won (put content Stored) (stored s key content refused Stored) hides
     (stored-ends (Follows s key (put content Stored)) s key content refused Stored (content-ends s key content Stored good))
 
 meta_get-follows : (s : CacheState) (key : List ℕ) (held : Option Body) (get : MetaGet) (moment : ℕ) (refused : Bool) → get.show.cas ≡ false → body_at key s.items ≡ held → IsUnflushed s
@@ -263,7 +263,7 @@ settled_step-follows s (atoms.Update update) moment refused key plain is good = 
 settled_step-follows s (atoms.Meta (metas.Get at get)) moment refused key plain is good = grind (arith, not-true, meta_get-follows)
 settled_step-follows s (atoms.Meta (metas.Update update show)) moment refused key plain is good =
     let parts = and_parts (is_unnumbered update) (not show.cas) plain in
-    subst (λ (k : Option (List ℕ)). Follows s key (told_key show moment Plain (update_key (map_of s.items key) update moment))
-    ((update_step s update moment refused).0, told show moment Plain (held_under k (update_step s update moment refused).0) (update_step s update moment refused).1)) (sym is)
-    (told-follows s key show moment Plain (update_key (map_of s.items key) update moment) (update_step s update moment refused) (not-true show.cas parts.1)
+    subst (λ (k : Option (List ℕ)). Follows s key (as_meta show moment Plain (update_key (map_of s.items key) update moment))
+    ((update_step s update moment refused).0, meta_reply_of show moment Plain (held_under k (update_step s update moment refused).0) (update_step s update moment refused).1)) (sym is)
+    (meta_reply_of-follows s key show moment Plain (update_key (map_of s.items key) update moment) (update_step s update moment refused) (not-true show.cas parts.1)
     (update-follows s update moment refused key parts.0 is good))

@@ -24,7 +24,7 @@ use Rattle.mc_request.specs.declared.parts.Direction.TheVariants.{Up, Down}
 use Rattle.mc_request.specs.declared.parts.Request.TheVariants as requests
 use Rattle.mc_request.specs.declared.parts.StoreMode.{StoreMode}
 use Rattle.mc_request.specs.declared.parts.StoreMode.TheVariants.{Set, Add, Replace, Append, Prepend}
-use Rattle.mc_request.specs.declared.parts.Taken.TheVariants.{Whole}
+use Rattle.mc_request.specs.declared.parts.Parsed.TheVariants.{Whole}
 use Rattle.mc_request.specs.declared.parts.Update.TheVariants.{Store, Touch, Delete, Count, FlushAll}
 use Rattle.mc_request.specs.Flags.{flags_from, fresh_flags, get_by, counting_by}
 use Rattle.mc_request.specs.Meanings.{Alone, Stores, meaning, form_by, ms_storing}

@@ -27,13 +27,13 @@ use Rattle.mc_request.specs.declared.parts.Request.{Request}
 use Rattle.mc_request.specs.declared.parts.Request.TheVariants as requests
 use Rattle.mc_request.specs.declared.parts.StoreMode.{StoreMode}
 use Rattle.mc_request.specs.declared.parts.StoreMode.TheVariants.{Set, Add, Replace, Append, Prepend}
-use Rattle.mc_request.specs.declared.parts.Taken.{Taken}
-use Rattle.mc_request.specs.declared.parts.Taken.TheVariants.{Whole, Faulty}
+use Rattle.mc_request.specs.declared.parts.Parsed.{Parsed}
+use Rattle.mc_request.specs.declared.parts.Parsed.TheVariants.{Whole, Faulty}
 use Rattle.mc_request.specs.declared.parts.Update.{Update}
 use Rattle.mc_request.specs.declared.parts.Update.TheVariants.{Store, Touch, Delete, Count, FlushAll}
 use Rattle.mc_request.specs.Atoms.{gets_of}
 use Rattle.mc_request.specs.Flags.{flags_from, fresh_flags}
-use Rattle.mc_request.specs.Meanings.{Line, Lone, Storage, Storing, Classic, MetaSet, Meaning, Alone, Stores, Refuses, key_of, well_formed, touch_line, without_zero, delete_line, count_parts, count_line, flush_parts, flush_line, keys_line, gat_line, storage_parts, after_length, store_line, meta_key, mg_line, md_line, ma_line, ms_storing, ms_by, ms_line, line_named, line_of, announced, meaning_from, meaning_by, meaning}
+use Rattle.mc_request.specs.Meanings.{Line, Lone, Storage, PendingStore, Classic, MetaSet, Meaning, Alone, Stores, Refuses, key_of, well_formed, touch_line, without_zero, delete_line, count_parts, count_line, flush_parts, flush_line, keys_line, gat_line, storage_parts, after_length, store_line, meta_key, mg_line, md_line, ma_line, ms_storing, ms_by, ms_line, line_named, line_of, announced, meaning_from, meaning_by, meaning}
 use Rattle.mc_request.specs.Names.{name_of, has_arity, noreply_of}
 use Rattle.mc_request.specs.Parts as parts
 use Rattle.mc_request.specs.Parts.{key_in, key_in_meta, key_said}
@@ -57,11 +57,11 @@ Says requests.MetaNoop = Unit {0}
 Says requests.Version = Unit {0}
 Says requests.Quit = Unit {0}
 
-abbrev SaysTaken : Taken → Type 0
+abbrev SaysTaken : Parsed → Type 0
 SaysTaken (Whole request) = Says request
 SaysTaken (Faulty fault) = Unit {0}
 
-abbrev SaysStoring : Storing → Type 0
+abbrev SaysStoring : PendingStore → Type 0
 SaysStoring (Classic update noreply) = is_classic update ≡ true
 SaysStoring (MetaSet update show form) = (is_askable (metas.Update update show) ≡ true) × HasBytes (key_in update)
 
@@ -242,19 +242,19 @@ key_block (Delete key compare invalidate) block = refl
 key_block (Count key counting) block = refl
 key_block (FlushAll delay) block = refl
 
-stored_says : (storing : Storing) (block : List ℕ) → SaysStoring storing → Says (stored storing block)
+stored_says : (storing : PendingStore) (block : List ℕ) → SaysStoring storing → Says (stored storing block)
 stored_says (Classic update noreply) block h = classic_block update block ∙ h
 stored_says (MetaSet update show form) block h = (askable_block update show block ∙ h.0, rw (key_block update block) h.1)
 
-abbrev SaysFirst : Option (Taken × ℕ) → Type 0
+abbrev SaysFirst : Option (Parsed × ℕ) → Type 0
 SaysFirst None = Unit {0}
 SaysFirst (Some x) = SaysTaken x.0
 
-ended : (b : Bool) (storing : Storing) (block : List ℕ) → SaysStoring storing → SaysTaken (if b then Whole (stored storing block) else Faulty faults.BadDataChunk)
+ended : (b : Bool) (storing : PendingStore) (block : List ℕ) → SaysStoring storing → SaysTaken (if b then Whole (stored storing block) else Faulty faults.BadDataChunk)
 ended true storing block h = stored_says storing block h
 ended false storing block h = tt
 
-come : (b : Bool) (taken : Taken) (n : ℕ) → SaysTaken taken → SaysFirst (if b then None else Some (taken, n))
+come : (b : Bool) (taken : Parsed) (n : ℕ) → SaysTaken taken → SaysFirst (if b then None else Some (taken, n))
 come true taken n h = tt
 come false taken n h = h
 
@@ -274,15 +274,15 @@ unfolding next_request
 next_says text are = next_says_by (first_line text) text refl are
 
 -- all that was taken can be spelled
-abbrev SayAll : List Taken → Type 0
+abbrev SayAll : List Parsed → Type 0
 SayAll [] = Unit {0}
 SayAll (taken ∷ more) = SaysTaken taken × SayAll more
 
-ending : (b : Bool) (more : List Taken) → SayAll more → SayAll (if b then [] else more)
+ending : (b : Bool) (more : List Parsed) → SayAll more → SayAll (if b then [] else more)
 ending true more h = tt
 ending false more h = h
 
-from_text : (o : Option (Taken × ℕ)) (text : List ℕ) (f : List ℕ → List Taken) → SaysFirst o → ((n : ℕ) → SayAll (f (drop n text))) → SayAll (requests_from o text f)
+from_text : (o : Option (Parsed × ℕ)) (text : List ℕ) (f : List ℕ → List Parsed) → SaysFirst o → ((n : ℕ) → SayAll (f (drop n text))) → SayAll (requests_from o text f)
 from_text None text f first others = tt
 from_text (Some x) text f first others = (first, ending (ends x.0) (f (drop x.1 text)) (others x.1))
 
@@ -321,7 +321,7 @@ alone : (b : Bool) → b ≡ true → (b && true) ≡ true
 alone true h = refl
 alone false h = absurd cc
 
-taken_good : (taken : Taken) → SaysTaken taken → is_well_formed taken ≡ true → can_be_spelled taken ≡ true
+taken_good : (taken : Parsed) → SaysTaken taken → is_well_formed taken ≡ true → can_be_spelled taken ≡ true
 taken_good (Whole (requests.Get keys exptime with_cas)) h good = grind (arith, nat_lt, and_parts, gets_good)
 taken_good (Whole (requests.Update update noreply)) h good =
     alone (is_good_atom (atoms.Update update)) (and_from (is_classic update) (is_good_update is_plain_key is_good_block update) h good)
@@ -331,7 +331,7 @@ taken_good (Whole requests.Version) h good = refl
 taken_good (Whole requests.Quit) h good = refl
 taken_good (Faulty fault) h good = refl
 
-all_good : (ts : List Taken) → SayAll ts → list_all is_well_formed ts ≡ true → list_all can_be_spelled ts ≡ true
+all_good : (ts : List Parsed) → SayAll ts → list_all is_well_formed ts ≡ true → list_all can_be_spelled ts ≡ true
 all_good [] h good = refl
 all_good (taken ∷ more) h good =
     let both = and_parts (is_well_formed taken) (list_all is_well_formed more) good in

@@ -9,8 +9,8 @@ use Rattle.mc_request.specs.declared.parts.Atom.{Atom}
 use Rattle.mc_request.specs.declared.parts.Atom.TheVariants as atoms
 use Rattle.mc_request.specs.declared.parts.Request.{Request}
 use Rattle.mc_request.specs.declared.parts.Request.TheVariants.{Quit}
-use Rattle.mc_request.specs.declared.parts.Taken.{Taken}
-use Rattle.mc_request.specs.declared.parts.Taken.TheVariants.{Whole}
+use Rattle.mc_request.specs.declared.parts.Parsed.{Parsed}
+use Rattle.mc_request.specs.declared.parts.Parsed.TheVariants.{Whole}
 use Rattle.mc_request.specs.Atoms.{atoms_of}
 use Rattle.mc_request.specs.Names.{name_of}
 use Rattle.mc_request.specs.Requests.{next_request, ends, requests_within, requests_of}
@@ -43,11 +43,11 @@ one_atom (atoms.Get key exptime with_cas) = refl
 one_atom (atoms.Update update) = refl
 one_atom (atoms.Meta command) = refl
 
-taken_same : (x y : Taken × ℕ) → Some x ≡ Some y → x ≡ y
+taken_same : (x y : Parsed × ℕ) → Some x ≡ Some y → x ≡ y
 taken_same x y e = cc
 
-request_same : (a b : Request) (m n : ℕ) → ◌≡◌ {A = Taken × ℕ} (Whole a, m) (Whole b, n) → a ≡ b
-request_same a b m n e = let whole : Whole a ≡ Whole b = ap (λ (x : Taken × ℕ). x.0) e in cc
+request_same : (a b : Request) (m n : ℕ) → ◌≡◌ {A = Parsed × ℕ} (Whole a, m) (Whole b, n) → a ≡ b
+request_same a b m n e = let whole : Whole a ≡ Whole b = ap (λ (x : Parsed × ℕ). x.0) e in cc
 
 head_same : (a b : Atom (List ℕ)) → a ∷ [] ≡ b ∷ [] → a ≡ b
 head_same a b e = cc
@@ -64,7 +64,7 @@ apart a b xs ys g h e =
     let rests = sym (drop-append_seam (spelling_of_atom b) xs) ∙ ap (drop (length (spelling_of_atom b))) texts ∙ drop-append_seam (spelling_of_atom b) ys in
     (same, rests)
 
-abbrev pub taken_of : Atom (List ℕ) → Taken
+abbrev pub taken_of : Atom (List ℕ) → Parsed
 taken_of atom = Whole (request_of atom)
 
 -- what is read of spellings in sequence
@@ -74,7 +74,7 @@ all_spelled [] more h = refl
 all_spelled (atom ∷ commands) more h =
     let parts = and_parts (is_good_atom atom) (list_all is_good_atom commands) h in
     ap requests_of (append_assoc (spelling_of_atom atom) (spellings_of commands) more) ∙ requests-spelled atom (spellings_of commands ++ more) parts.0
-    ∙ ap (λ (ts : List Taken). taken_of atom ∷ ts) (all_spelled commands more parts.1)
+    ∙ ap (λ (ts : List Parsed). taken_of atom ∷ ts) (all_spelled commands more parts.1)
 
 quit_alone : requests_of (codes "quit\r\n") ≡ Whole Quit ∷ []
 unfolding words line_end first_line name_of next_request requests_within requests_of

@@ -9,8 +9,8 @@ use Rattle.mc_text.specs.Lines as lines
 use Rattle.mc_text.specs.Lines.{FirstLine, first_line}
 use Rattle.mc_text.proofs.SpelledLemmas.{is_word, first_line-spelled, is_word-decimal, is_word-lettered, is_word-negative}
 use Rattle.mc_request.specs.declared.parts.Request.{Request}
-use Rattle.mc_request.specs.declared.parts.Taken.TheVariants.{Whole}
-use Rattle.mc_request.specs.Meanings.{Storing, Alone, Stores, meaning}
+use Rattle.mc_request.specs.declared.parts.Parsed.TheVariants.{Whole}
+use Rattle.mc_request.specs.Meanings.{PendingStore, Alone, Stores, meaning}
 use Rattle.mc_request.specs.Requests.{taken_by, next_by, next_request, stored}
 use Rattle.mc_request.specs.WellFormed.{is_i64, is_u64, is_where_some}
 use Rattle.mc_codec.specs.Spellings.{spaced, block_lines, word_if, number_if, signed_if}
@@ -84,12 +84,12 @@ next_alone word others request more are means = grind (arith, length-append, nex
 block_ends : (block more : List ℕ) → (block ++ codes "\r\n") ++ more ≡ block ++ (13 ∷ 10 ∷ more)
 block_ends block more = append_assoc block (13 ∷ 10 ∷ []) more
 
-stored_by : (s : Storing) (block more : List ℕ) (line : ℕ)
+stored_by : (s : PendingStore) (block more : List ℕ) (line : ℕ)
     → taken_by (Stores s (length block)) line (block ++ (13 ∷ 10 ∷ more)) ≡ Some (Whole (stored s block), line + (length block + 2))
 stored_by s block more line = grind (arith, nat_lt, length-append, take-append_seam, drop-append_seam, nat_tests)
 
 -- a line with its data block
-pub next_stored : (word : List ℕ) (others : List (List ℕ)) (s : Storing) (block more : List ℕ) → AreWords 20 (word ∷ others)
+pub next_stored : (word : List ℕ) (others : List (List ℕ)) (s : PendingStore) (block more : List ℕ) → AreWords 20 (word ∷ others)
     → meaning (word ∷ others) ≡ Stores s (length block)
     → next_request ((spaced (word ∷ others) ++ (codes "\r\n" ++ block_lines (Some block))) ++ more)
     ≡ Some (Whole (stored s block), length (spaced (word ∷ others) ++ (codes "\r\n" ++ block_lines (Some block))))

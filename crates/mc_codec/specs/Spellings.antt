@@ -19,7 +19,7 @@ use Rattle.mc_request.specs.declared.parts.Direction.{Direction}
 use Rattle.mc_request.specs.declared.parts.Direction.TheVariants.{Up, Down}
 use Rattle.mc_request.specs.declared.parts.Request.{Request}
 use Rattle.mc_request.specs.declared.parts.Request.TheVariants as requests
-use Rattle.mc_request.specs.declared.parts.Taken.{Taken}
+use Rattle.mc_request.specs.declared.parts.Parsed.{Parsed}
 use Rattle.mc_request.specs.declared.parts.StoreMode.{StoreMode}
 use Rattle.mc_request.specs.declared.parts.StoreMode.TheVariants.{Set, Add, Replace, Append, Prepend}
 use Rattle.mc_request.specs.declared.parts.Update.{Update}
@@ -209,5 +209,5 @@ is_good_atom (atoms.Update update) = is_classic update && is_good_update is_plai
 is_good_atom (atoms.Meta command) = is_askable command && is_good_meta is_byte_key is_good_block command
 
 -- a request that asks for no command without a spelling; this project's own
-abbrev pub can_be_spelled : Taken → Bool
+abbrev pub can_be_spelled : Parsed → Bool
 can_be_spelled taken = list_all is_good_atom (atoms_taken taken)

@@ -6,7 +6,7 @@
 //! returns the reply to a pending command, given that command's head: a [`mc_request::Head`] is the command without its data
 //! block. A [`NextReply`] is one of three: the reply; that more bytes are needed, and at least how many are; or a protocol
 //! violation (`Strange`). A violation is no beginning of a reply that the command can have. [`ReplyReader::unread`] returns how
-//! many bytes belong to no returned reply, and [`ReplyReader::held`] how many are kept. [`ReplyReader::give_back`] frees the
+//! many bytes belong to no returned reply, and [`ReplyReader::held`] how many are kept. [`ReplyReader::shrink_if_idle`] frees the
 //! memory that an idle reader has reserved.
 //!
 //! `specs/NextReply.antt` says what `next` returns, by the spellings of replies (`mc_reply`'s `spelling_of`) and the replies that

@@ -6,7 +6,7 @@ use crate::next_replies::NextReply;
 use crate::replies::{owned, read_reply};
 use mc_reply::ReplyError;
 use mc_request::Head;
-use mc_text::{Unready, give_back, let_go};
+use mc_text::{Unready, consume_front, shrink_if_idle};
 use std::alloc::Global;
 use std::marker::Model;
 
@@ -64,7 +64,7 @@ impl ReplyReader {
             Ok((reply, rest)) => {
                 let taken = unread.len() - rest.len();
                 let reply = owned(alloc, reply)?;
-                self.start = let_go(&mut self.buffer, self.start + taken);
+                self.start = consume_front(&mut self.buffer, self.start + taken);
                 Ok(NextReply::Reply(reply))
             }
             Err(Unready::More(missing)) => Ok(NextReply::More(
@@ -99,9 +99,9 @@ impl ReplyReader {
 
     /// Frees the reserved memory, if no byte is kept and more than `kept` bytes are reserved. It is for a reader that will be idle for
     /// a while: the next feeds reserve anew.
-    pub fn give_back(&mut self, kept: usize)
+    pub fn shrink_if_idle(&mut self, kept: usize)
         ensures { self.new ≡ self.old }
     {
-        give_back(&mut self.buffer, kept);
+        shrink_if_idle(&mut self.buffer, kept);
     }
 }

@@ -9,15 +9,15 @@ ghost use Rattle.mc_reply.specs.CanHave.{can_have};
 ghost use Rattle.mc_reply.specs.Spelling.{answer_of, spelling_of};
 ghost use Rattle.mc_codec.specs.Spellings.{can_be_spelled, is_good_atom, request_of, spelling_of_atom, spellings_of};
 
-use mc_request::{Request, Taken};
+use mc_request::{Parsed, Request};
 
 /// The canonical spelling of a command is read as that command, whatever follows. It is the first request of its text, which
 /// takes the bytes of the spelling and no other, and the others are read after it.
 pub fn spelled_commands_are_read()
     ensures first { (atom : Atom (List ℕ)) (more : List ℕ) → is_good_atom atom ≡ true
-        → next_request (spelling_of_atom atom ++ more) ≡ Some (Taken.Whole (request_of atom), length (spelling_of_atom atom)) }
+        → next_request (spelling_of_atom atom ++ more) ≡ Some (Parsed.Whole (request_of atom), length (spelling_of_atom atom)) }
     ensures requests { (atom : Atom (List ℕ)) (more : List ℕ) → is_good_atom atom ≡ true
-        → requests_of (spelling_of_atom atom ++ more) ≡ Taken.Whole (request_of atom) ∷ requests_of more }
+        → requests_of (spelling_of_atom atom ++ more) ≡ Parsed.Whole (request_of atom) ∷ requests_of more }
 {}
 
 /// The request that the spelling of a command is read as stands for this command, and for no other.
@@ -35,10 +35,10 @@ pub fn spellings_are_apart()
 /// the last request.
 pub fn quit_after_commands_is_read()
     ensures more { (commands : List (Atom (List ℕ))) (more : List ℕ) → list_all is_good_atom commands ≡ true
-        → requests_of (spellings_of commands ++ more) ≡ map (λ atom. Taken.Whole (request_of atom)) commands ++ requests_of more }
+        → requests_of (spellings_of commands ++ more) ≡ map (λ atom. Parsed.Whole (request_of atom)) commands ++ requests_of more }
     ensures quit { (commands : List (Atom (List ℕ))) → list_all is_good_atom commands ≡ true
         → requests_of (spellings_of commands ++ codes "quit\r\n")
-        ≡ map (λ atom. Taken.Whole (request_of atom)) commands ++ Taken.Whole Request.Quit ∷ [] }
+        ≡ map (λ atom. Parsed.Whole (request_of atom)) commands ++ Parsed.Whole Request.Quit ∷ [] }
 {}
 
 /// Each command of a client's text has a canonical spelling. `All (λ b. b < 256)` says that a list is bytes, as each text of

@@ -8,8 +8,8 @@ use Rattle.mc_request.specs.Requests.{requests_of}
 use Rattle.mc_request.specs.declared.parts.Atom.{Atom}
 use Rattle.mc_request.specs.declared.parts.Atom.TheVariants as atoms
 use Rattle.mc_request.specs.declared.parts.Request.TheVariants as requests
-use Rattle.mc_request.specs.declared.parts.Taken.{Taken}
-use Rattle.mc_request.specs.declared.parts.Taken.TheVariants.{Whole, Faulty}
+use Rattle.mc_request.specs.declared.parts.Parsed.{Parsed}
+use Rattle.mc_request.specs.declared.parts.Parsed.TheVariants.{Whole, Faulty}
 use Rattle.mc_request.specs.declared.parts.Update.TheVariants.{Store, Touch, Delete, Count, FlushAll}
 use Rattle.mc_request_reader.specs.Reader.{rest_of}
 use Rattle.mc_request_reader.specs.Peeks.{IsFirst}
@@ -40,7 +40,7 @@ good_each place (server ∷ servers) atom h =
     and_from (is_good_atom atom) (list_all is_good_routed (to_each (suc place) servers atom)) h (good_each (suc place) servers atom h)
 
 -- a request that can be spelled is sent in commands that can be
-pub good_routes : (ring : RingState) (what : Taken) → can_be_spelled what ≡ true → list_all is_good_routed (route_of_taken ring what) ≡ true
+pub good_routes : (ring : RingState) (what : Parsed) → can_be_spelled what ≡ true → list_all is_good_routed (route_of_taken ring what) ≡ true
 good_routes ring (Whole (requests.Get keys exptime with_cas)) h = good_gets ring exptime with_cas keys h
 good_routes ring (Whole (requests.Update (Store mode compare key flags exptime block) noreply)) h = h
 good_routes ring (Whole (requests.Update (Touch key exptime) noreply)) h = h
@@ -69,11 +69,11 @@ pub good_in : (place : ℕ) (e : TakenRequest) → can_be_spelled e.what ≡ tru
 good_in place e h = good_from place e.session e.request 0 (route_of_taken e.ring e.what) (good_routes e.ring e.what h)
 
 -- what a turn takes of a session can be spelled
-pub taken_is_good : (number : ℕ) (order : Order) (text sent : List ℕ) (before after : SessionState) (what : Taken) → All (λ b. b < 256) text
+pub taken_is_good : (number : ℕ) (order : Order) (text sent : List ℕ) (before after : SessionState) (what : Parsed) → All (λ b. b < 256) text
     → SessionHolds number order text sent before → IsFirst before.reader what after.reader → can_be_spelled what ≡ true
 taken_is_good number order text sent before after what bytes holds first =
     let all : list_all can_be_spelled (taken_of number order ++ (what ∷ rest_of after.reader [])) ≡ true =
-    ap (λ (ts : List Taken). list_all can_be_spelled (taken_of number order ++ ts)) (sym (first.rest []))
-    ∙ ap (λ (ts : List Taken). list_all can_be_spelled ts) (holds.rest [] ∙ ap requests_of (append-nil text))
+    ap (λ (ts : List Parsed). list_all can_be_spelled (taken_of number order ++ ts)) (sym (first.rest []))
+    ∙ ap (λ (ts : List Parsed). list_all can_be_spelled ts) (holds.rest [] ∙ ap requests_of (append-nil text))
     ∙ requests_can_be_spelled text bytes in
     (and_parts (can_be_spelled what) (list_all can_be_spelled (rest_of after.reader [])) (passes_parts can_be_spelled (taken_of number order) (what ∷ rest_of after.reader []) all).1).0

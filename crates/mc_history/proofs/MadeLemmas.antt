@@ -4,7 +4,7 @@ use Rattle.mc_request.specs.Atoms.{head_of}
 use Rattle.mc_request.specs.declared.meta.MetaCommand.TheVariants as metas
 use Rattle.mc_request.specs.declared.parts.Atom.{Atom}
 use Rattle.mc_request.specs.declared.parts.Atom.TheVariants as atoms
-use Rattle.mc_request.specs.declared.parts.Taken.{Taken}
+use Rattle.mc_request.specs.declared.parts.Parsed.{Parsed}
 use Rattle.mc_request.specs.declared.parts.Update.TheVariants.{Store, Touch, Delete, Count, FlushAll}
 use Rattle.mc_reply.specs.CanHave.{can_have}
 use Rattle.mc_reply.specs.Spelling.{answer_of, spelling_of}
@@ -17,7 +17,7 @@ use Rattle.mc_cache.specs.Replay.{Command, replay, replies}
 use Rattle.mc_cache.specs.Step.{step_of}
 use Rattle.mc_server.specs.Served.{answer_after, cache_after, commands_of}
 use Rattle.mc_server.specs.Histories.{answers_to, replayed, taken_of}
-use Rattle.mc_account.specs.Lanes.{CanHave, told}
+use Rattle.mc_account.specs.Lanes.{CanHave, replies_text}
 use Rattle.mc_history.specs.Made.{AreMade, IsMade, Made, commands_on, made_on, read_as, replies_on, taking_of}
 
 -- a data block plays no part in a reply's spelling, nor in which replies there are
@@ -65,13 +65,13 @@ taken_on number (m ∷ ms) =
     let again = taken_on number ms in
     (elim (m.connection == number) as (λ v. (if v then read_as m.command ∷ taken_of number (map taking_of ms) else taken_of number (map taking_of ms))
     ≡ map read_as (map (λ (x : Made). x.command) (if v then m ∷ made_on number ms else made_on number ms))) [
-      | true ↦ ap (λ (ts : List Taken). read_as m.command ∷ ts) again
+      | true ↦ ap (λ (ts : List Parsed). read_as m.command ∷ ts) again
       | false ↦ again
     ])
 
 -- what was answered to a connection
 pub told_on : (number : ℕ) (s : CacheState) (made : List Made) → AreMade s made
-    → answers_to number s (map taking_of made) ≡ told (commands_on number made) (replies_on number made)
+    → answers_to number s (map taking_of made) ≡ replies_text (commands_on number made) (replies_on number made)
 told_on number s [] h = refl
 told_on number s (m ∷ ms) h =
     let again = told_on number (step_of s m.command.0 m.moment m.refused).0 ms h.1 in
@@ -79,7 +79,7 @@ told_on number s (m ∷ ms) h =
     ap (λ (c : CacheState). (if m.connection == number then answer_after s (taking_of m) else []) ++ answers_to number c (map taking_of ms)) (cache_made s m)
     ∙ ap (λ (bytes : List ℕ). (if m.connection == number then bytes else []) ++ answers_to number (step_of s m.command.0 m.moment m.refused).0 (map taking_of ms)) first
     ∙ (elim (m.connection == number) as (λ v. (if v then spelling_of (head_of m.command.0) m.reply else []) ++ answers_to number (step_of s m.command.0 m.moment m.refused).0 (map taking_of ms)
-    ≡ told (map (λ (x : Made). x.command) (if v then m ∷ made_on number ms else made_on number ms)) (map (λ (x : Made). x.reply) (if v then m ∷ made_on number ms else made_on number ms))) [
+    ≡ replies_text (map (λ (x : Made). x.command) (if v then m ∷ made_on number ms else made_on number ms)) (map (λ (x : Made). x.reply) (if v then m ∷ made_on number ms else made_on number ms))) [
       | true ↦ ap (λ (bytes : List ℕ). spelling_of (head_of m.command.0) m.reply ++ bytes) again
       | false ↦ again
     ])

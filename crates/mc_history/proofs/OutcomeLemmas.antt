@@ -10,7 +10,7 @@ use Rattle.mc_route.specs.declared.outcomes.Outcome.TheVariants.{Awaited, Lost, 
 use Rattle.mc_route.specs.declared.routes.Routed.{Routed}
 use Rattle.mc_link.specs.LinkState.{LinkState}
 use Rattle.mc_link.specs.declared.turns.Tag.{Tag}
-use Rattle.mc_proxy.specs.SessionNoting.{with_outcome}
+use Rattle.mc_proxy.specs.SessionNoting.{set_outcome}
 use Rattle.mc_proxy.specs.Sending.{at_once, tag_of}
 use Rattle.mc_proxy.specs.SessionState.{link_at}
 use Rattle.mc_account.specs.Orders.{TakenRequest, Order, AreInOrder, entries_of, note, note_all, numbers_from, owns}
@@ -87,7 +87,7 @@ news_push place order e fresh tag atom reply is known =
     (ap (λ (o : Option TakenRequest). command_in o tag.atom) (sym same) ∙ is, ap (λ (o : Option TakenRequest). outcome_in o tag.atom) (sym same) ∙ known)
 
 -- after an outcome is noted, a known outcome was known before, or is that one
-with_back : (at : ℕ) (outcome : Outcome) (xs : List Outcome) (a : ℕ) (q : Outcome) → slice_get (with_outcome at outcome xs) a ≡ Some q → (slice_get xs a ≡ Some q) ⊎ ((a ≡ at) × (q ≡ outcome))
+with_back : (at : ℕ) (outcome : Outcome) (xs : List Outcome) (a : ℕ) (q : Outcome) → slice_get (set_outcome at outcome xs) a ≡ Some q → (slice_get xs a ≡ Some q) ⊎ ((a ≡ at) × (q ≡ outcome))
 with_back at outcome [] a q e = inl e
 with_back zero outcome (x ∷ xs) zero q e = inr (refl, sym (same_Some outcome q e))
 with_back zero outcome (x ∷ xs) (suc a) q e = inl e
@@ -113,7 +113,7 @@ slot_back t outcome session [] at zero a q numbered own e = absurd (none-some q 
 slot_back t outcome session [] at (suc k) a q numbered own e = absurd (none-some q e)
 slot_back t outcome session (x ∷ xs) at zero a q numbered own e =
     let first : x.request ≡ at = cc in
-    (elim (owns t x) as (λ v. owns t x ≡ v → slice_get (if v then with_outcome t.atom outcome x.outcomes else x.outcomes) a ≡ Some q
+    (elim (owns t x) as (λ v. owns t x ≡ v → slice_get (if v then set_outcome t.atom outcome x.outcomes else x.outcomes) a ≡ Some q
     → (slice_get x.outcomes a ≡ Some q) ⊎ ((session ≡ t.session) × (0 + at ≡ t.request) × (a ≡ t.atom) × (q ≡ outcome))) [
       | true ↦ λ is now. elim (with_back t.atom outcome x.outcomes a q now) [
         | inl h ↦ inl h

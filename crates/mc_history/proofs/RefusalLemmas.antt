@@ -7,8 +7,8 @@ use Rattle.mc_request.specs.declared.faults.Fault.TheVariants.{UnknownCommand, B
 use Rattle.mc_request.specs.declared.meta.MetaCommand.TheVariants as metas
 use Rattle.mc_request.specs.declared.parts.Atom.{Atom}
 use Rattle.mc_request.specs.declared.parts.Atom.TheVariants as atoms
-use Rattle.mc_request.specs.declared.parts.Taken.{Taken}
-use Rattle.mc_request.specs.declared.parts.Taken.TheVariants.{Whole}
+use Rattle.mc_request.specs.declared.parts.Parsed.{Parsed}
+use Rattle.mc_request.specs.declared.parts.Parsed.TheVariants.{Whole}
 use Rattle.mc_request.specs.declared.parts.Update.TheVariants.{Store, Touch, Delete, Count, FlushAll}
 use Rattle.mc_reply.specs.CanHave.{can_have}
 use Rattle.mc_reply.specs.MetaSpelling.{meta_spelling}
@@ -162,7 +162,7 @@ command_by e atom = record { atom = atom; moment = e.moment; refused = e.refused
 
 one_command : (e : ServedRequest) (atom : Atom (List ℕ)) → e.what ≡ Whole (request_of atom) → commands_of e ≡ command_by e atom ∷ []
 one_command e atom is =
-    ap (λ (what : Taken). commands_of (record e { what = what })) is
+    ap (λ (what : Parsed). commands_of (record e { what = what })) is
     ∙ ap (λ (ones : List (Atom (List ℕ))). map (command_by e) ones) (one_atom atom)
 
 -- the answer to such an entry, and its refusal
@@ -170,7 +170,7 @@ entry_answer : (s : CacheState) (e : ServedRequest) (atom : Atom (List ℕ)) →
     → can_have atom (step_of s atom e.moment e.refused).1 ≡ true → answer_after s e ≡ spelling_of atom (step_of s atom e.moment e.refused).1
 entry_answer s e atom is good can =
     ap (λ (cs : List Command). answer e.what (replies s cs)) (one_command e atom is)
-    ∙ ap (λ (what : Taken). answer what ((step_of s atom e.moment e.refused).1 ∷ [])) is
+    ∙ ap (λ (what : Parsed). answer what ((step_of s atom e.moment e.refused).1 ∷ [])) is
     ∙ answer_of-spelled atom (step_of s atom e.moment e.refused).1 good can
 
 pub entry_refused : (s : CacheState) (e : ServedRequest) (atom : Atom (List ℕ)) → e.what ≡ Whole (request_of atom) → IsLegalAt s e

@@ -1,7 +1,7 @@
 -- What a server made of the commands that arrived.
 use Rattle.std.specs.Prelude.{ℕ, ◌≡◌, ◌==◌, Bool, true, List, [], ◌∷◌, map, if◌then◌else◌}
-use Rattle.mc_request.specs.declared.parts.Taken.{Taken}
-use Rattle.mc_request.specs.declared.parts.Taken.TheVariants.{Whole}
+use Rattle.mc_request.specs.declared.parts.Parsed.{Parsed}
+use Rattle.mc_request.specs.declared.parts.Parsed.TheVariants.{Whole}
 use Rattle.mc_reply.specs.CanHave.{can_have}
 use Rattle.mc_reply.specs.Spelling.{spelling_of}
 use Rattle.mc_reply.specs.declared.replies.Reply.{Reply as AReply}
@@ -23,7 +23,7 @@ pub record Made : Type 0 where
   pub reply : AReply (List ℕ)
 
 -- what a server reads when a command is spelled to it
-abbrev pub read_as : Tagged → Taken
+abbrev pub read_as : Tagged → Parsed
 read_as command = Whole (request_of command.0)
 
 -- the command as the server's history has it, and as the world's has it

@@ -3,7 +3,7 @@ ghost use Rattle.std.specs.Prelude.{ℕ, ◌≡◌, true, List};
 ghost use Rattle.mc_request.specs.Faults.{fault_line};
 ghost use Rattle.mc_request.specs.declared.faults.Fault.TheVariants.{OutOfMemory};
 ghost use Rattle.mc_request.specs.declared.parts.Atom.{Atom};
-ghost use Rattle.mc_request.specs.declared.parts.Taken.TheVariants.{Whole};
+ghost use Rattle.mc_request.specs.declared.parts.Parsed.TheVariants.{Whole};
 ghost use Rattle.mc_reply.specs.CanHave.{can_have};
 ghost use Rattle.mc_codec.specs.Spellings.{is_good_atom, request_of};
 ghost use Rattle.mc_link.specs.LinkState.{LinkState};
@@ -13,7 +13,7 @@ ghost use Rattle.mc_server.specs.Served.{IsLegalAt, ServedRequest, answer_after}
 ghost use Rattle.mc_server.specs.ServerState.{ConnectionState};
 ghost use Rattle.mc_account.specs.Lanes.{Lane};
 ghost use Rattle.mc_account.specs.Orders.{Order, Tagged};
-ghost use Rattle.mc_history.specs.Generations.{AreJoined, IsCarried};
+ghost use Rattle.mc_history.specs.Generations.{BothEndsAgree, IsCarried};
 ghost use Rattle.mc_history.specs.Made.{Made};
 
 /// If, both ways, the bytes that arrived are those that were sent, a server takes the commands that were sent, in order. The replies that
@@ -21,7 +21,7 @@ ghost use Rattle.mc_history.specs.Made.{Made};
 pub fn generations_carry()
     ensures { (place : ℕ) (order : Order) (lane : Lane) (link : LinkState) (opening : CacheState) (made : List Made) (number : ℕ)
         (connection : ConnectionState) (others : List Tagged)
-        → AreJoined place order lane link opening made number connection others → IsCarried place order lane link made number connection others }
+        → BothEndsAgree place order lane link opening made number connection others → IsCarried place order lane link made number connection others }
 {}
 
 /// Memory was refused to a command that was spelled to a server exactly if its answer is the line for lack of memory. This holds if its

@@ -13,14 +13,14 @@ use Rattle.mc_registers.proofs.GuaranteeLemmas.{adds_exclude}
 use Rattle.mc_registers.proofs.HitLemmas.{steady-told}
 use Rattle.mc_world.specs.Logs.{Log}
 use Rattle.mc_linearizable.specs.Linearizable.{Executed, IsLinearizablePool}
-use Rattle.mc_linearizable.specs.Clients.{AnAddExcludes, AreTold, ComeBetween, NoneMayHaveWritten}
+use Rattle.mc_linearizable.specs.Clients.{AnAddExcludes, AreRecorded, ComeBetween, NoneMayHaveWritten}
 use Rattle.mc_linearizable.proofs.SpelledLemmas.{refused_apart}
-use Rattle.mc_linearizable.proofs.LifeRuns.{told-atom}
+use Rattle.mc_linearizable.proofs.LifeRuns.{recorded-atom}
 use Rattle.mc_linearizable.proofs.CutLemmas.{told_wrote}
 use Rattle.mc_linearizable.proofs.ClientLemmas.{run_says}
 
 are_quiet : (order : Order) (histories : ℕ → List Entry) (key : List ℕ) (a b : Executed order histories key) (xs : List (Executed order histories key)) (all : List Done)
-    → NoneMayHaveWritten a b → ComeBetween a xs b → AreTold order xs all → AreQuiet all
+    → NoneMayHaveWritten a b → ComeBetween a xs b → AreRecorded order xs all → AreQuiet all
 are_quiet order histories key a b [] [] none between told = tt
 are_quiet order histories key a b [] (done ∷ all) none between told = absurd told
 are_quiet order histories key a b (x ∷ xs) [] none between told = absurd told
@@ -33,7 +33,7 @@ pub add_excludes : (losses : Losses) (counter : ℕ) (order : Order) (texts outs
     → IsLinearizablePool losses counter order texts outs histories log → (key : List ℕ) → AnAddExcludes order histories log key
 add_excludes losses counter order texts outs histories log pool key first add adds done none between come all last told tells number body steady =
     let quiet : AreQuiet all = are_quiet order histories key first add between all none come told in
-    let same = told-atom order histories key add last tells in
+    let same = recorded-atom order histories key add last tells in
     let updates : update_in last.atom ≡ Some (Store Add adds.0 adds.1 adds.2 adds.3 adds.4) = ap (λ (a : Atom (List ℕ)). update_in a) same ∙ adds.5 in
     elim (steady-told all last number (Some body) Add adds.0 adds.1 adds.2 adds.3 adds.4 steady updates) [
       | inl stored ↦ absurd (true≢false (sym stored ∙ adds_exclude number body all last adds.0 adds.1 adds.2 adds.3 adds.4 steady quiet updates))

@@ -18,16 +18,16 @@ use Rattle.mc_history.specs.declared.entries.Entry.{Entry}
 use Rattle.mc_history.specs.Histories.{tag_in}
 use Rattle.mc_registers.specs.Guarantees.{is_done, update_in}
 use Rattle.mc_registers.specs.Registers.{Done, IsRun}
-use Rattle.mc_registers.specs.Told.{Tells}
+use Rattle.mc_registers.specs.Records.{Records}
 use Rattle.mc_registers.proofs.GuaranteeLemmas.{cas_loses_nothing, reads_see_own_writes}
 use Rattle.mc_registers.proofs.HitLemmas.{quiet-misses, run-told, shown-fits}
 use Rattle.mc_world.specs.Logs.{Log, number_of, serves, taken_before}
-use Rattle.mc_world.proofs.LifeLemmas.{IsOfLife, life_of}
-use Rattle.mc_world.proofs.LogLemmas.{moments-count}
+use Rattle.mc_world.proofs.Log.LifeLemmas.{IsOfLife, life_of}
+use Rattle.mc_world.proofs.Log.LogLemmas.{moments-count}
 use Rattle.mc_linearizable.specs.Linearizable.{Became, ComesFirst, Executed, IsLinearizable, IsLinearizablePool}
 use Rattle.mc_linearizable.specs.Clients.{ClientsLoseNoCas, ClientsReadOwnWrites, ComesBetween, IsGet, IsInLife, MayHaveWritten, ShowsValue, StoresWhole, WasAnsweredBy, WasDone}
 use Rattle.mc_linearizable.proofs.SpelledLemmas.{IsHit, hit_read, number_read, number_same, refused_apart}
-use Rattle.mc_linearizable.proofs.LifeRuns.{life_run, same-entry, told-atom}
+use Rattle.mc_linearizable.proofs.LifeRuns.{life_run, recorded-atom, same-entry}
 use Rattle.mc_linearizable.proofs.CutLemmas.{AreCut, IsCut, IsWriter, cut, cut_two, each_not, quiet_or_wrote}
 
 -- a command that was answered by a reply has its bytes in the history
@@ -43,16 +43,16 @@ entry_says counter order histories log key h x reply answered =
 
 -- the reply of the command in its run shows the same
 pub run_says : (counter : ℕ) (order : Order) (histories : ℕ → List Entry) (log : Log) (key : List ℕ) → IsLinearizable counter order histories log key
-    → (x : Executed order histories key) (done : Done) (reply : AReply (List ℕ)) → Tells order x.place x.entry done → WasAnsweredBy order log (tag_in x.entry) reply
+    → (x : Executed order histories key) (done : Done) (reply : AReply (List ℕ)) → Records order x.place x.entry done → WasAnsweredBy order log (tag_in x.entry) reply
     → spelling_of x.atom done.reply ≡ spelling_of x.atom reply
 run_says counter order histories log key h x done reply tells answered =
-    let same : done.atom ≡ x.atom = told-atom order histories key x done tells in
+    let same : done.atom ≡ x.atom = recorded-atom order histories key x done tells in
     ap (λ (a : Atom (List ℕ)). spelling_of a done.reply) (sym same) ∙ sym tells.reply ∙ entry_says counter order histories log key h x reply answered
 
 -- a `get` that was answered by a hit hits in its run
 pub read_hits : (counter : ℕ) (order : Order) (histories : ℕ → List Entry) (log : Log) (key : List ℕ) → IsLinearizable counter order histories log key
     → (x : Executed order histories key) (done : Done) (at : List ℕ) (touch : Option ℤ) (with_cas : Bool) (flags : ℕ) (number : Option ℕ) (value : List ℕ)
-    → Tells order x.place x.entry done → x.atom ≡ atoms.Get at touch with_cas → WasAnsweredBy order log (tag_in x.entry) (Hit flags number value)
+    → Records order x.place x.entry done → x.atom ≡ atoms.Get at touch with_cas → WasAnsweredBy order log (tag_in x.entry) (Hit flags number value)
     → key_onto at done.reply end_line ≡ key_onto at (Hit flags number value) end_line
 read_hits counter order histories log key h x done at touch with_cas flags number value tells gets answered =
     subst (λ (a : Atom (List ℕ)). spelling_of a done.reply ≡ spelling_of a (Hit flags number value)) gets
@@ -61,11 +61,11 @@ read_hits counter order histories log key h x done at touch with_cas flags numbe
 -- a store that was answered as done is done in its run
 store_done : (counter : ℕ) (order : Order) (histories : ℕ → List Entry) (log : Log) (key : List ℕ) → IsLinearizable counter order histories log key
     → (x : Executed order histories key) (front back : List Done) (done : Done) (reply : AReply (List ℕ)) (mode : StoreMode) (compare : Option ℕ) (own : List ℕ) (flags : ℕ) (exptime : ℤ)
-    (value : List ℕ) → Tells order x.place x.entry done → IsRun counter None (front ++ done ∷ back)
+    (value : List ℕ) → Records order x.place x.entry done → IsRun counter None (front ++ done ∷ back)
     → update_in x.atom ≡ Some (Store mode compare own flags exptime value) → WasAnsweredBy order log (tag_in x.entry) reply → is_done reply ≡ true
     → (update_in done.atom ≡ Some (Store mode compare own flags exptime value)) × (is_done done.reply ≡ true)
 store_done counter order histories log key h x front back done reply mode compare own flags exptime value tells run stores answered is =
-    let same : done.atom ≡ x.atom = told-atom order histories key x done tells in
+    let same : done.atom ≡ x.atom = recorded-atom order histories key x done tells in
     let updates : update_in done.atom ≡ Some (Store mode compare own flags exptime value) = ap (λ (a : Atom (List ℕ)). update_in a) same ∙ stores in (
       updates,
       elim (run-told front back done counter None mode compare own flags exptime value run updates) [
@@ -132,7 +132,7 @@ read_in_life counter order histories log key h write read flags value stores don
     c.first_tells c.run stores.stores done.1 done.2 in
     let hit : IsHit c.last.reply = hit_read gets.0 c.last.reply shown_flags number shown
     (read_hits counter order histories log key h read c.last gets.0 gets.1 gets.2 shown_flags number shown c.last_tells gets.3 answered) in
-    let reads : c.last.atom ≡ atoms.Get gets.0 gets.1 gets.2 = told-atom order histories key read c.last c.last_tells ∙ gets.3 in
+    let reads : c.last.atom ≡ atoms.Get gets.0 gets.1 gets.2 = recorded-atom order histories key read c.last c.last_tells ∙ gets.3 in
     elim (quiet_or_wrote order histories key write.place (suc write.number) read.number c.commands c.between c.rising c.told) [
       | inl quiet ↦
           let both = reads_see_own_writes counter None c.front c.between c.back c.first c.last stores.mode stores.compare stores.key flags stores.exptime value
@@ -155,7 +155,7 @@ read_after : (counter : ℕ) (order : Order) (histories : ℕ → List Entry) (l
 read_after counter order histories log key h write read flags low value gets shown_flags number shown answered c later =
     let hit : IsHit c.done.reply = hit_read gets.0 c.done.reply shown_flags number shown
     (read_hits counter order histories log key h read c.done gets.0 gets.1 gets.2 shown_flags number shown c.tells gets.3 answered) in
-    let reads : c.done.atom ≡ atoms.Get gets.0 gets.1 gets.2 = told-atom order histories key read c.done c.tells ∙ gets.3 in
+    let reads : c.done.atom ≡ atoms.Get gets.0 gets.1 gets.2 = recorded-atom order histories key read c.done c.tells ∙ gets.3 in
     elim (quiet_or_wrote order histories key read.place low read.number c.commands c.front c.rising c.told) [
       | inl quiet ↦ absurd (quiet-misses c.front c.back c.done counter gets.0 gets.1 gets.2 hit.flags hit.cas hit.value c.run quiet reads hit.is)
       | inr w ↦ inr (w.x, (later w.x w.at w.from, inr (w.at, w.to)), w.wrote)
@@ -193,7 +193,7 @@ lose_no_cas losses counter order texts outs histories log pool key read cas othe
     c.last_tells joined compares.stores done.1 done.2 in
     let bytes = read_hits counter order histories log key h read c.first gets.0 gets.1 gets.2 flags (Some number) shown c.first_tells gets.3 answered in
     let hit : IsHit c.first.reply = hit_read gets.0 c.first.reply flags (Some number) shown bytes in
-    let reads : c.first.atom ≡ atoms.Get gets.0 gets.1 gets.2 = told-atom order histories key read c.first c.first_tells ∙ gets.3 in
+    let reads : c.first.atom ≡ atoms.Get gets.0 gets.1 gets.2 = recorded-atom order histories key read c.first c.first_tells ∙ gets.3 in
     let n = number_read gets.0 hit.flags flags hit.cas number hit.value shown (ap (λ (reply : AReply (List ℕ)). key_onto gets.0 reply end_line) (sym hit.is) ∙ bytes) in
     let hits : c.first.reply ≡ Hit hit.flags (Some n.0) hit.value = hit.is ∙ ap (λ (k : Option ℕ). Hit hit.flags k hit.value) n.1 in
     let fits = shown-fits c.front c.between c.back c.first c.last counter n.0 number None gets.0 gets.1 gets.2 hit.flags hit.value

@@ -12,13 +12,13 @@ use Rattle.mc_account.specs.Orders.{Order}
 use Rattle.mc_history.specs.declared.entries.Entry.{Entry}
 use Rattle.mc_history.specs.Histories.{tag_in}
 use Rattle.mc_registers.specs.Registers.{Done, IsRun}
-use Rattle.mc_registers.specs.Told.{Tells}
+use Rattle.mc_registers.specs.Records.{Records}
 use Rattle.mc_registers.proofs.CountLemmas.{count-small, next-counts, quiet-counts-none}
 use Rattle.mc_world.specs.Logs.{Log}
 use Rattle.mc_linearizable.specs.Linearizable.{Executed, IsLinearizable, IsLinearizablePool}
 use Rattle.mc_linearizable.specs.Clients.{ClientsCount, CountsOn, WasAnsweredBy}
 use Rattle.mc_linearizable.proofs.SpelledLemmas.{IsNumber, number_told}
-use Rattle.mc_linearizable.proofs.LifeRuns.{told-atom}
+use Rattle.mc_linearizable.proofs.LifeRuns.{recorded-atom}
 use Rattle.mc_linearizable.proofs.CutLemmas.{quiet_or_wrote}
 use Rattle.mc_linearizable.proofs.ClientLemmas.{one_life, run_says, writer_between}
 
@@ -30,11 +30,11 @@ record IsCount (order : Order) (histories : ℕ → List Entry) (key : List ℕ)
   pub replies : done.reply ≡ Number number
 
 count_in_run : (counter : ℕ) (order : Order) (histories : ℕ → List Entry) (log : Log) (key : List ℕ) → IsLinearizable counter order histories log key
-    → (x : Executed order histories key) (front back : List Done) (done : Done) (counting : Counting) (number : ℕ) → Tells order x.place x.entry done
+    → (x : Executed order histories key) (front back : List Done) (done : Done) (counting : Counting) (number : ℕ) → Records order x.place x.entry done
     → IsRun counter None (front ++ done ∷ back) → CountsOn x.atom counting → number < 2 ^ 64 → WasAnsweredBy order log (tag_in x.entry) (Number number)
     → IsCount order histories key x done counting number
 count_in_run counter order histories log key h x front back done counting number tells run counts small answered =
-    let is : done.atom ≡ atoms.Update (Count counts.key counting) = told-atom order histories key x done tells ∙ counts.counts in
+    let is : done.atom ≡ atoms.Update (Count counts.key counting) = recorded-atom order histories key x done tells ∙ counts.counts in
     let n : IsNumber done.reply number = number_told done.reply number
     (subst (λ (a : Atom (List ℕ)). spelling_of a done.reply ≡ spelling_of a (Number number)) counts.counts
     (run_says counter order histories log key h x done (Number number) tells answered)) in

@@ -7,11 +7,11 @@ use Rattle.mc_account.specs.Orders.{Order}
 use Rattle.mc_history.specs.declared.entries.Entry.{Entry}
 use Rattle.mc_registers.specs.Guarantees.{AreQuiet, HaveNotWritten, has_written, may_have_written}
 use Rattle.mc_registers.specs.Registers.{Done, IsRun}
-use Rattle.mc_registers.specs.Told.{Tells}
+use Rattle.mc_registers.specs.Records.{Records}
 use Rattle.mc_world.specs.Logs.{Log, taken_before}
 use Rattle.mc_linearizable.specs.Linearizable.{Executed}
-use Rattle.mc_linearizable.specs.Clients.{AreRising, AreTold, HasNotWritten, HasRun, HasWritten, IsAmong, IsInLife, MayHaveWritten}
-use Rattle.mc_linearizable.proofs.LifeRuns.{same-told, told-atom}
+use Rattle.mc_linearizable.specs.Clients.{AreRecorded, AreRising, HasNotWritten, HasRun, HasWritten, IsAmong, IsInLife, MayHaveWritten}
+use Rattle.mc_linearizable.proofs.LifeRuns.{recorded-atom, same-recorded}
 
 -- a number that is among others is not below the first
 among-low : (order : Order) (histories : ℕ → List Entry) (key : List ℕ) (place low high number : ℕ) (xs : List (Executed order histories key)) → AreRising place low high xs
@@ -33,17 +33,17 @@ record IsSplit (order : Order) (histories : ℕ → List Entry) (key : List ℕ)
   pub whole : run ≡ before ++ done ∷ after
   pub at : x.place ≡ place
   pub is : x.number ≡ number
-  pub tells : Tells order x.place x.entry done
+  pub tells : Records order x.place x.entry done
   pub front_rising : AreRising place low number front
-  pub front_told : AreTold order front before
+  pub front_told : AreRecorded order front before
   pub back_rising : AreRising place (suc number) high back
-  pub back_told : AreTold order back after
+  pub back_told : AreRecorded order back after
   pub earlier : (n : ℕ) → n < number → IsAmong n xs → IsAmong n front
   pub later : (n : ℕ) → number < n → IsAmong n xs → IsAmong n back
 
 -- the split at the first command
 split_here : (order : Order) (histories : ℕ → List Entry) (key : List ℕ) (place low high number : ℕ) (x : Executed order histories key) (xs : List (Executed order histories key))
-    (done : Done) (run : List Done) → AreRising place low high (x ∷ xs) → AreTold order (x ∷ xs) (done ∷ run) → number ≡ x.number
+    (done : Done) (run : List Done) → AreRising place low high (x ∷ xs) → AreRecorded order (x ∷ xs) (done ∷ run) → number ≡ x.number
     → IsSplit order histories key place low high number (x ∷ xs) (done ∷ run)
 split_here order histories key place low high number x xs done run rising told is =
     record {
@@ -77,7 +77,7 @@ split_here order histories key place low high number x xs done run rising told i
 
 -- the split at a later command
 split_later : (order : Order) (histories : ℕ → List Entry) (key : List ℕ) (place low high number : ℕ) (x : Executed order histories key) (xs : List (Executed order histories key))
-    (done : Done) (run : List Done) → AreRising place low high (x ∷ xs) → AreTold order (x ∷ xs) (done ∷ run) → x.number < number
+    (done : Done) (run : List Done) → AreRising place low high (x ∷ xs) → AreRecorded order (x ∷ xs) (done ∷ run) → x.number < number
     → IsSplit order histories key place (suc x.number) high number xs run → IsSplit order histories key place low high number (x ∷ xs) (done ∷ run)
 split_later order histories key place low high number x xs done run rising told past s =
     record {
@@ -108,7 +108,7 @@ split_later order histories key place low high number x xs done run rising told 
     leave n more (inr there) = s.later n more there
 
 split : (order : Order) (histories : ℕ → List Entry) (key : List ℕ) (place low high number : ℕ) (xs : List (Executed order histories key)) (run : List Done)
-    → AreRising place low high xs → AreTold order xs run → IsAmong number xs → IsSplit order histories key place low high number xs run
+    → AreRising place low high xs → AreRecorded order xs run → IsAmong number xs → IsSplit order histories key place low high number xs run
 split order histories key place low high number [] run rising told among = absurd among
 split order histories key place low high number (x ∷ xs) [] rising told among = absurd told
 split order histories key place low high number (x ∷ xs) (done ∷ run) rising told (inl is) =
@@ -125,9 +125,9 @@ pub record IsCut (counter : ℕ) (order : Order) (histories : ℕ → List Entry
   pub done : Done
   pub back : List Done
   pub run : IsRun counter None (front ++ done ∷ back)
-  pub tells : Tells order a.place a.entry done
+  pub tells : Records order a.place a.entry done
   pub rising : AreRising a.place low a.number commands
-  pub told : AreTold order commands front
+  pub told : AreRecorded order commands front
 
 pub cut : (counter : ℕ) (order : Order) (histories : ℕ → List Entry) (log : Log) (key : List ℕ) (life : ℕ) (a : Executed order histories key)
     → HasRun counter order histories log key a.place life → IsInLife life log a → IsCut counter order histories key (taken_before a.place life log) a
@@ -139,7 +139,7 @@ cut counter order histories log key life a h inside =
       done = s.done;
       back = s.after;
       run = subst (λ (es : List Done). IsRun counter None es) s.whole h.is_run;
-      tells = same-told order histories key s.x a s.done s.at s.is s.tells;
+      tells = same-recorded order histories key s.x a s.done s.at s.is s.tells;
       rising = s.front_rising;
       told = s.front_told;
     }
@@ -153,10 +153,10 @@ pub record AreCut (counter : ℕ) (order : Order) (histories : ℕ → List Entr
   pub last : Done
   pub back : List Done
   pub run : IsRun counter None (front ++ first ∷ (between ++ last ∷ back))
-  pub first_tells : Tells order a.place a.entry first
-  pub last_tells : Tells order b.place b.entry last
+  pub first_tells : Records order a.place a.entry first
+  pub last_tells : Records order b.place b.entry last
   pub rising : AreRising a.place (suc a.number) b.number commands
-  pub told : AreTold order commands between
+  pub told : AreRecorded order commands between
   pub all : (x : Executed order histories key) → x.place ≡ a.place → a.number < x.number → x.number < b.number → IsAmong x.number commands
 
 pub cut_two : (counter : ℕ) (order : Order) (histories : ℕ → List Entry) (log : Log) (key : List ℕ) (life : ℕ) (a b : Executed order histories key)
@@ -175,8 +175,8 @@ cut_two counter order histories log key life a b h same inside also less =
       last = t.done;
       back = t.after;
       run = subst (λ (es : List Done). IsRun counter None es) (s.whole ∙ ap (λ (es : List Done). s.before ++ s.done ∷ es) t.whole) h.is_run;
-      first_tells = same-told order histories key s.x a s.done s.at s.is s.tells;
-      last_tells = same-told order histories key t.x b t.done (t.at ∙ sym same) t.is t.tells;
+      first_tells = same-recorded order histories key s.x a s.done s.at s.is s.tells;
+      last_tells = same-recorded order histories key t.x b t.done (t.at ∙ sym same) t.is t.tells;
       rising = t.front_rising;
       told = t.front_told;
       all = λ x at more few. t.earlier x.number few (s.later x.number more (h.all x at (here x at more few)));
@@ -197,17 +197,18 @@ pub record IsWriter (order : Order) (histories : ℕ → List Entry) (key : List
   pub from : low ≤ x.number
   pub to : x.number < high
 
-pub told_wrote : (order : Order) (histories : ℕ → List Entry) (key : List ℕ) (x : Executed order histories key) (done : Done) → Tells order x.place x.entry done
+pub told_wrote : (order : Order) (histories : ℕ → List Entry) (key : List ℕ) (x : Executed order histories key) (done : Done)
+    → Records order x.place x.entry done
     → may_have_written done.atom done.reply ≡ true → MayHaveWritten x
 told_wrote order histories key x done tells wrote =
-    let same : done.atom ≡ x.atom = told-atom order histories key x done tells in (
+    let same : done.atom ≡ x.atom = recorded-atom order histories key x done tells in (
       done.reply,
       tells.reply ∙ ap (λ (a : Atom (List ℕ)). spelling_of a done.reply) same,
       subst (λ (a : Atom (List ℕ)). may_have_written a done.reply ≡ true) same wrote,
     )
 
 pub quiet_or_wrote : (order : Order) (histories : ℕ → List Entry) (key : List ℕ) (place low high : ℕ) (xs : List (Executed order histories key)) (run : List Done)
-    → AreRising place low high xs → AreTold order xs run → AreQuiet run ⊎ IsWriter order histories key place low high
+    → AreRising place low high xs → AreRecorded order xs run → AreQuiet run ⊎ IsWriter order histories key place low high
 quiet_or_wrote order histories key place low high [] [] rising told = inl tt
 quiet_or_wrote order histories key place low high [] (done ∷ run) rising told = absurd told
 quiet_or_wrote order histories key place low high (x ∷ xs) [] rising told = absurd told
@@ -223,17 +224,17 @@ quiet_or_wrote order histories key place low high (x ∷ xs) (done ∷ run) risi
     ]) refl
 
 -- if no command has written, none has in the run
-pub told_has : (order : Order) (histories : ℕ → List Entry) (key : List ℕ) (x : Executed order histories key) (done : Done) → Tells order x.place x.entry done
+pub told_has : (order : Order) (histories : ℕ → List Entry) (key : List ℕ) (x : Executed order histories key) (done : Done) → Records order x.place x.entry done
     → has_written done.atom done.reply ≡ true → HasWritten x
 told_has order histories key x done tells wrote =
-    let same : done.atom ≡ x.atom = told-atom order histories key x done tells in (
+    let same : done.atom ≡ x.atom = recorded-atom order histories key x done tells in (
       done.reply,
       tells.reply ∙ ap (λ (a : Atom (List ℕ)). spelling_of a done.reply) same,
       subst (λ (a : Atom (List ℕ)). has_written a done.reply ≡ true) same wrote,
     )
 
 pub none_wrote : (order : Order) (histories : ℕ → List Entry) (key : List ℕ) (place low high : ℕ) (xs : List (Executed order histories key)) (run : List Done)
-    → AreRising place low high xs → AreTold order xs run
+    → AreRising place low high xs → AreRecorded order xs run
     → ((x : Executed order histories key) → x.place ≡ place → low ≤ x.number → x.number < high → HasWritten x → ⊥) → HaveNotWritten run
 none_wrote order histories key place low high [] [] rising told never = tt
 none_wrote order histories key place low high [] (done ∷ run) rising told never = absurd told
@@ -244,20 +245,20 @@ none_wrote order histories key place low high (x ∷ xs) (done ∷ run) rising t
 )
 
 -- if none of some commands has written, each of them has not
-told_has_not : (order : Order) (histories : ℕ → List Entry) (key : List ℕ) (x : Executed order histories key) (done : Done) → Tells order x.place x.entry done
+told_has_not : (order : Order) (histories : ℕ → List Entry) (key : List ℕ) (x : Executed order histories key) (done : Done) → Records order x.place x.entry done
     → has_written done.atom done.reply ≡ false → HasNotWritten x
 told_has_not order histories key x done tells quiet =
-    let same : done.atom ≡ x.atom = told-atom order histories key x done tells in (
+    let same : done.atom ≡ x.atom = recorded-atom order histories key x done tells in (
       done.reply,
       tells.reply ∙ ap (λ (a : Atom (List ℕ)). spelling_of a done.reply) same,
       subst (λ (a : Atom (List ℕ)). has_written a done.reply ≡ false) same quiet,
     )
 
 pub each_not : (order : Order) (histories : ℕ → List Entry) (key : List ℕ) (place low high : ℕ) (xs : List (Executed order histories key)) (run : List Done)
-    → AreRising place low high xs → AreTold order xs run → HaveNotWritten run → (y : Executed order histories key) → y.place ≡ place → IsAmong y.number xs → HasNotWritten y
+    → AreRising place low high xs → AreRecorded order xs run → HaveNotWritten run → (y : Executed order histories key) → y.place ≡ place → IsAmong y.number xs → HasNotWritten y
 each_not order histories key place low high [] run rising told not y at among = absurd among
 each_not order histories key place low high (x ∷ xs) [] rising told not y at among = absurd told
 each_not order histories key place low high (x ∷ xs) (done ∷ run) rising told not y at (inl is) =
-    told_has_not order histories key y done (same-told order histories key x y done (rising.0 ∙ sym at) (sym is) told.0) not.0
+    told_has_not order histories key y done (same-recorded order histories key x y done (rising.0 ∙ sym at) (sym is) told.0) not.0
 each_not order histories key place low high (x ∷ xs) (done ∷ run) rising told not y at (inr among) =
     each_not order histories key place (suc x.number) high xs run rising.3 told.1 not.1 y at among

@@ -23,7 +23,7 @@ use Rattle.mc_world.specs.Accounts.{Accounts}
 use Rattle.mc_world.specs.Logs.{Log, number_of}
 use Rattle.mc_world.specs.declared.logs.Logged.{Logged}
 use Rattle.mc_world.specs.declared.logs.Logged.TheVariants.{Happened}
-use Rattle.mc_world.proofs.LifeLemmas.{legal_unrestarted}
+use Rattle.mc_world.proofs.Log.LifeLemmas.{legal_unrestarted}
 use Rattle.mc_history.specs.declared.entries.Entry.{Entry}
 use Rattle.mc_history.specs.Histories.{IsLegal, tag_in}
 use Rattle.mc_pool_laws.proofs.MissExample.{get_asked, get_key}

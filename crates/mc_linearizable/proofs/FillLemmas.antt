@@ -19,13 +19,13 @@ use Rattle.mc_history.specs.declared.entries.Entry.{Entry}
 use Rattle.mc_registers.specs.Guarantees.{HaveNotWritten}
 use Rattle.mc_registers.specs.Recache.{has_won, is_win}
 use Rattle.mc_registers.specs.Registers.{Done}
-use Rattle.mc_registers.specs.Told.{Tells}
+use Rattle.mc_registers.specs.Records.{Records}
 use Rattle.mc_registers.proofs.RecacheLemmas.{each_win_is_marked, first_win_is_marked}
 use Rattle.mc_world.specs.Logs.{Log}
 use Rattle.mc_linearizable.specs.Linearizable.{Executed, IsLinearizable, IsLinearizablePool}
 use Rattle.mc_linearizable.specs.Clients.{OneClientFills, WasShownWin}
 use Rattle.mc_linearizable.proofs.SpelledLemmas.{AreDigits, decimal_digits}
-use Rattle.mc_linearizable.proofs.LifeRuns.{told-atom}
+use Rattle.mc_linearizable.proofs.LifeRuns.{recorded-atom}
 use Rattle.mc_linearizable.proofs.CutLemmas.{none_wrote, told_wrote}
 use Rattle.mc_linearizable.proofs.ClientLemmas.{one_life, run_says}
 
@@ -112,9 +112,9 @@ win_read (atoms.Meta (metas.Get key get)) own reply same won = win_same key get 
 
 -- a client that was shown W is shown it in its run
 pub run_wins : (counter : ℕ) (order : Order) (histories : ℕ → List Entry) (log : Log) (key : List ℕ) → IsLinearizable counter order histories log key
-    → (x : Executed order histories key) (done : Done) → Tells order x.place x.entry done → WasShownWin log x → has_won done.atom done.reply ≡ true
+    → (x : Executed order histories key) (done : Done) → Records order x.place x.entry done → WasShownWin log x → has_won done.atom done.reply ≡ true
 run_wins counter order histories log key h x done tells wins =
-    let same : done.atom ≡ x.atom = told-atom order histories key x done tells in
+    let same : done.atom ≡ x.atom = recorded-atom order histories key x done tells in
     let won : has_won x.atom done.reply ≡ true =
     win_read x.atom done.reply wins.0 (run_says counter order histories log key h x done wins.0 tells wins.1) wins.2 in
     subst (λ (a : Atom (List ℕ)). has_won a done.reply ≡ true) (sym same) won

@@ -13,8 +13,8 @@ use Rattle.mc_request.specs.declared.parts.Atom.{Atom}
 use Rattle.mc_request.specs.declared.parts.Atom.TheVariants as atoms
 use Rattle.mc_request.specs.declared.parts.Request.TheVariants as requests
 use Rattle.mc_request.specs.declared.parts.StoreMode.TheVariants.{Set}
-use Rattle.mc_request.specs.declared.parts.Taken.{Taken}
-use Rattle.mc_request.specs.declared.parts.Taken.TheVariants.{Whole}
+use Rattle.mc_request.specs.declared.parts.Parsed.{Parsed}
+use Rattle.mc_request.specs.declared.parts.Parsed.TheVariants.{Whole}
 use Rattle.mc_request.specs.declared.parts.Update.TheVariants.{Store}
 use Rattle.mc_reply.specs.declared.replies.Reply.{Reply as AReply}
 use Rattle.mc_reply.specs.declared.replies.Reply.TheVariants.{Hit, Miss, Stored}
@@ -29,7 +29,7 @@ use Rattle.mc_world.specs.Accounts.{Accounts}
 use Rattle.mc_world.specs.Logs.{Log, in_life, number_of, restarts}
 use Rattle.mc_world.specs.declared.logs.Logged.{Logged}
 use Rattle.mc_world.specs.declared.logs.Logged.TheVariants.{Happened, Joined, Restarted}
-use Rattle.mc_world.proofs.LifeLemmas.{legal_unrestarted, taken_past}
+use Rattle.mc_world.proofs.Log.LifeLemmas.{legal_unrestarted, taken_past}
 use Rattle.mc_history.specs.declared.entries.Entry.{Entry}
 use Rattle.mc_history.specs.Histories.{IsLegal, tag_in}
 use Rattle.mc_pool_laws.proofs.MissExample.{get_asked, get_key}
@@ -47,13 +47,13 @@ join_text = codes "set k 0 0 1\r\na\r\ngets k\r\nget k\r\nset k 0 0 1\r\nb\r\nca
 abbrev gets_key : Atom (List ℕ)
 gets_key = atoms.Get (codes "k") None true
 
-abbrev gets_asked : Taken
+abbrev gets_asked : Parsed
 gets_asked = Whole (requests.Get (codes "k" ∷ []) None true)
 
 abbrev cas_key : Atom (List ℕ)
 cas_key = atoms.Update (Store Set (Some 1) (codes "k") 0 (pos 0) (codes "c"))
 
-abbrev cas_asked : Taken
+abbrev cas_asked : Parsed
 cas_asked = Whole (requests.Update (Store Set (Some 1) (codes "k") 0 (pos 0) (codes "c")) false)
 
 abbrev a_hit : AReply (List ℕ)

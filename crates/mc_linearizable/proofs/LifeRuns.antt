@@ -12,20 +12,20 @@ use Rattle.mc_history.specs.declared.entries.Entry.{Entry}
 use Rattle.mc_history.specs.Histories.{tag_in}
 use Rattle.mc_registers.specs.Laws.{is_on}
 use Rattle.mc_registers.specs.Registers.{Done}
-use Rattle.mc_registers.specs.Told.{TellEach, Tells, on_key}
+use Rattle.mc_registers.specs.Records.{RecordEach, Records, on_key}
 use Rattle.mc_world.specs.Logs.{Log, in_life, taken_before}
-use Rattle.mc_world.proofs.LifeLemmas.{IsOfLife, got_in_life}
-use Rattle.mc_world.proofs.SiteLemmas.{get_past}
+use Rattle.mc_world.proofs.Log.LifeLemmas.{IsOfLife, got_in_life}
+use Rattle.mc_world.proofs.Site.SiteLemmas.{get_past}
 use Rattle.mc_linearizable.specs.Linearizable.{Executed, IsLinearizable}
-use Rattle.mc_linearizable.specs.Clients.{AreRising, AreTold, HasRun, IsAmong, IsInLife}
+use Rattle.mc_linearizable.specs.Clients.{AreRecorded, AreRising, HasRun, IsAmong, IsInLife}
 
 -- a command has one atom
 same_atom : (order : Order) (tag : Tag) (p q : ℕ) (a b : Atom (List ℕ)) → command_at order tag ≡ Some (to_place p a) → command_at order tag ≡ Some (to_place q b) → a ≡ b
 same_atom order tag p q a b first second = ap (λ (c : Routed). c.atom) (same_Some (to_place p a) (to_place q b) (sym first ∙ second))
 
 -- the record of a command has its atom
-pub told-atom : (order : Order) (histories : ℕ → List Entry) (key : List ℕ) (x : Executed order histories key) (done : Done) → Tells order x.place x.entry done → done.atom ≡ x.atom
-told-atom order histories key x done tells = same_atom order (tag_in x.entry) x.place x.place done.atom x.atom tells.command x.command
+pub recorded-atom : (order : Order) (histories : ℕ → List Entry) (key : List ℕ) (x : Executed order histories key) (done : Done) → Records order x.place x.entry done → done.atom ≡ x.atom
+recorded-atom order histories key x done tells = same_atom order (tag_in x.entry) x.place x.place done.atom x.atom tells.command x.command
 
 -- commands of one place and number are one
 pub same-entry : (order : Order) (histories : ℕ → List Entry) (key : List ℕ) (x y : Executed order histories key) → x.place ≡ y.place → x.number ≡ y.number → x.entry ≡ y.entry
@@ -34,17 +34,17 @@ same-entry order histories key x y place number =
     let also : slice_get (histories y.place) y.number ≡ Some x.entry = subst (λ (n : ℕ). slice_get (histories y.place) n ≡ Some x.entry) number at in
     same_Some x.entry y.entry (sym also ∙ y.at)
 
-pub same-told : (order : Order) (histories : ℕ → List Entry) (key : List ℕ) (x y : Executed order histories key) (done : Done) → x.place ≡ y.place → x.number ≡ y.number
-    → Tells order x.place x.entry done → Tells order y.place y.entry done
-same-told order histories key x y done place number tells =
+pub same-recorded : (order : Order) (histories : ℕ → List Entry) (key : List ℕ) (x y : Executed order histories key) (done : Done) → x.place ≡ y.place → x.number ≡ y.number
+    → Records order x.place x.entry done → Records order y.place y.entry done
+same-recorded order histories key x y done place number tells =
     let same : x.entry ≡ y.entry = same-entry order histories key x y place number in
-    subst (λ (p : ℕ). Tells order p y.entry done) place (subst (λ (e : Entry). Tells order x.place e done) same tells)
+    subst (λ (p : ℕ). Records order p y.entry done) place (subst (λ (e : Entry). Records order x.place e done) same tells)
 
 -- the commands of some entries, by their records
 record AreMade (order : Order) (histories : ℕ → List Entry) (key : List ℕ) (place low high : ℕ) (entries : List Entry) (run : List Done) : Type 0 where
   commands : List (Executed order histories key)
   rising : AreRising place low high commands
-  told : AreTold order commands run
+  told : AreRecorded order commands run
   all : (x : Executed order histories key) (k : ℕ) → x.place ≡ place → x.number ≡ low + k → slice_get entries k ≡ Some x.entry → IsAmong x.number commands
 
 -- each entry is in the history, and below a number
@@ -64,7 +64,7 @@ more_rising order histories key place low high (x ∷ xs) rising = (rising.0, om
 
 -- an entry on the key adds a command, and another adds none
 made_on : (order : Order) (histories : ℕ → List Entry) (key : List ℕ) (place low high : ℕ) (e : Entry) (es : List Entry) (done : Done) (run : List Done)
-    → Tells order place e done → slice_get (histories place) low ≡ Some e → low < high → is_on key done.atom ≡ true
+    → Records order place e done → slice_get (histories place) low ≡ Some e → low < high → is_on key done.atom ≡ true
     → AreMade order histories key place (suc low) high es run → AreMade order histories key place low high (e ∷ es) (done ∷ run)
 made_on order histories key place low high e es done run tells at below on made =
     let x : Executed order histories key =
@@ -82,7 +82,7 @@ made_on order histories key place low high e es done run tells at below on made 
     among y (suc k) same number there = inr (made.all y k same (omega (arith, number)) there)
 
 made_off : (order : Order) (histories : ℕ → List Entry) (key : List ℕ) (place low high : ℕ) (e : Entry) (es : List Entry) (done : Done) (run : List Done)
-    → Tells order place e done → is_on key done.atom ≡ false
+    → Records order place e done → is_on key done.atom ≡ false
     → AreMade order histories key place (suc low) high es run → AreMade order histories key place low high (e ∷ es) run
 made_off order histories key place low high e es done run tells off made =
     record {
@@ -100,7 +100,7 @@ made_off order histories key place low high e es done run tells off made =
         absurd (true≢false (sym y.on ∙ ap (λ (a : Atom (List ℕ)). is_on key a) (sym atom) ∙ off))
     among y (suc k) same number there = made.all y k same (omega (arith, number)) there
 
-make : (order : Order) (histories : ℕ → List Entry) (key : List ℕ) (place low high : ℕ) (entries : List Entry) (all : List Done) → TellEach order place entries all
+make : (order : Order) (histories : ℕ → List Entry) (key : List ℕ) (place low high : ℕ) (entries : List Entry) (all : List Done) → RecordEach order place entries all
     → AreThere (histories place) low high entries → AreMade order histories key place low high entries (on_key key all)
 make order histories key place low high [] [] tell there =
     record { commands = []; rising = tt; told = tt; all = λ y k same number at. absurd (nothing y k at) }

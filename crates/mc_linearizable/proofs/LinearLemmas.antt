@@ -15,17 +15,17 @@ use Rattle.mc_history.specs.declared.entries.Entry.{Entry}
 use Rattle.mc_history.specs.Histories.{tag_in}
 use Rattle.mc_registers.specs.Laws.{is_on}
 use Rattle.mc_registers.proofs.RunLemmas.{opening-knows}
-use Rattle.mc_registers.proofs.ToldLemmas.{told-runs}
+use Rattle.mc_registers.proofs.RecordLemmas.{recorded-runs}
 use Rattle.mc_world.specs.Accounts.{Accounts}
 use Rattle.mc_world.specs.Logs.{Log, before, in_life, number_of, puts, serves, takes}
 use Rattle.mc_world.specs.Runs.{Call, Calls}
 use Rattle.mc_world.specs.Steps.{GivesAccount}
 use Rattle.mc_world.specs.Worlds.{CourseState, WorldState, history_of, put_out_of, text_of, world_opened}
-use Rattle.mc_world.proofs.LogLemmas.{number-before}
-use Rattle.mc_world.proofs.RunLemmas.{calls_account}
-use Rattle.mc_pool_laws.specs.Told.{IsToldBy}
+use Rattle.mc_world.proofs.Log.LogLemmas.{number-before}
+use Rattle.mc_world.proofs.Course.RunLemmas.{calls_account}
+use Rattle.mc_pool_laws.specs.Outcomes.{HasOutcomeBy}
 use Rattle.mc_pool_laws.proofs.PlaceLemmas.{before-front}
-use Rattle.mc_pool_laws.proofs.ToldLemmas.{known_at, told_by}
+use Rattle.mc_pool_laws.proofs.OutcomeLemmas.{known_at, told_by}
 use Rattle.mc_linearizable.specs.Linearizable.{Became, ComesFirst, Executed, IsAccountedWorld, IsEarlier, IsLinearizable, IsLinearizablePool, IsLinearizableWorld, WasReplied}
 use Rattle.mc_linearizable.proofs.MoveLemmas.{taken_lower}
 use Rattle.mc_linearizable.proofs.TimeLemmas.{number_later, taken_earlier}
@@ -64,7 +64,7 @@ keeps_time losses ring opening order texts outs histories log h good key a b rep
 
 -- the outcome of a command on the key
 became_by : (order : Order) (histories : ℕ → List Entry) (log : Log) (key : List ℕ) (tag : Tag) (place : ℕ) (atom : Atom (List ℕ)) (outcome : Outcome)
-    → command_at order tag ≡ Some (to_place place atom) → is_on key atom ≡ true → IsToldBy histories log tag (to_place place atom) outcome
+    → command_at order tag ≡ Some (to_place place atom) → is_on key atom ≡ true → HasOutcomeBy histories log tag (to_place place atom) outcome
     → Became order histories log key tag place atom outcome
 became_by order histories log key tag place atom (Reply reply) at on told = (
   record {
@@ -87,7 +87,7 @@ pub linearizable : (losses : Losses) (ring : RingState) (budget items counter : 
     → (key : List ℕ) → IsLinearizable counter order histories log key
 linearizable losses ring budget items counter order texts outs histories log good bounds h key = record {
   lives = λ place life.
-      let all = told-runs order place (in_life place life log (histories place)) (opening_cache budget items counter) counter
+      let all = recorded-runs order place (in_life place life log (histories place)) (opening_cache budget items counter) counter
       (λ k. opening-knows budget items counter k bounds) (h.legal place life) in
       (all.0, all.1, all.2 key);
   in_time = keeps_time losses ring (opening_cache budget items counter) order texts outs histories log h good key;

@@ -16,7 +16,7 @@ use Rattle.mc_history.specs.declared.entries.Entry.{Entry}
 use Rattle.mc_history.specs.Histories.{HasNone}
 use Rattle.mc_world.specs.Accounts.{Accounts, up_when_taken}
 use Rattle.mc_world.specs.Logs.{Log, number_of}
-use Rattle.mc_world.proofs.LifeLemmas.{legal_unrestarted}
+use Rattle.mc_world.proofs.Log.LifeLemmas.{legal_unrestarted}
 use Rattle.mc_pool_laws.proofs.NeedLemmas.{a_cache, loses_one, one_server, outs_of, puts_one, takes_one}
 use Rattle.mc_linearizable.proofs.SmallAccounts.{IsKnown, IsSmall, asked_of, first_text, no_history, one_ring, puts_if, small_accounts, store_asked, store_of, to_first, two_histories}
 

@@ -16,7 +16,7 @@ use Rattle.mc_history.specs.Histories.{HasNone, tag_in}
 use Rattle.mc_world.specs.Accounts.{Accounts}
 use Rattle.mc_world.specs.Logs.{Log}
 use Rattle.mc_pool_laws.specs.Sent.{IsSent}
-use Rattle.mc_pool_laws.specs.Told.{HasEntry, HasOneEntry}
+use Rattle.mc_pool_laws.specs.Outcomes.{HasEntry, HasOneEntry}
 use Rattle.mc_pool_laws.proofs.LossLemmas.{only_entry}
 use Rattle.mc_pool_laws.proofs.SentLemmas.{entry_named, sent_command}
 

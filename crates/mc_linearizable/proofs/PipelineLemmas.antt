@@ -14,7 +14,7 @@ use Rattle.mc_history.specs.Histories.{tag_in}
 use Rattle.mc_world.specs.Accounts.{Accounts, WasTaken}
 use Rattle.mc_world.specs.Logs.{Log, before, number_of, serves, takes}
 use Rattle.mc_world.specs.declared.logs.Logged.{Logged}
-use Rattle.mc_world.proofs.LogLemmas.{number-before}
+use Rattle.mc_world.proofs.Log.LogLemmas.{number-before}
 use Rattle.mc_pool_laws.proofs.OwnerLemmas.{taken-own}
 use Rattle.mc_pool_laws.proofs.SentLemmas.{in_request}
 use Rattle.mc_linearizable.specs.Linearizable.{ComesFirst, Executed, WasReplied}

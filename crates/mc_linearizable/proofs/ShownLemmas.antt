@@ -23,19 +23,19 @@ use Rattle.mc_account.specs.Orders.{Order}
 use Rattle.mc_history.specs.declared.entries.Entry.{Entry}
 use Rattle.mc_history.specs.Histories.{tag_in}
 use Rattle.mc_cache.specs.Settling.{is_dead_at}
-use Rattle.mc_cache.specs.Showing.{told}
+use Rattle.mc_cache.specs.Showing.{meta_reply_of}
 use Rattle.mc_cache.specs.Step.{made_by, numbered}
 use Rattle.mc_registers.specs.Guarantees.{AreQuiet, has_written, is_done, update_in}
 use Rattle.mc_registers.specs.Recache.{is_win}
 use Rattle.mc_registers.specs.Registers.{Done, Given, IsRun, get_as, last_by, meta_get_as, put_as, register_step, turn}
-use Rattle.mc_registers.specs.Told.{Tells}
+use Rattle.mc_registers.specs.Records.{Records}
 use Rattle.mc_registers.proofs.GuaranteeLemmas.{reads_see_own_writes}
 use Rattle.mc_registers.proofs.HitLemmas.{quiet-misses, run-told}
 use Rattle.mc_world.specs.Logs.{Log, taken_before}
 use Rattle.mc_linearizable.specs.Linearizable.{Executed, IsLinearizable, IsLinearizablePool}
 use Rattle.mc_linearizable.specs.Clients.{AHitHasAWriter, AHitShowsTheLastStore, HasContent, HasWritten, HitsBy, StoresWhole, WasAnsweredBy}
 use Rattle.mc_linearizable.proofs.SpelledLemmas.{IsHit, IsValue, hit_read, refused_apart, value_read}
-use Rattle.mc_linearizable.proofs.LifeRuns.{life_run, told-atom}
+use Rattle.mc_linearizable.proofs.LifeRuns.{life_run, recorded-atom}
 use Rattle.mc_linearizable.proofs.CutLemmas.{cut, quiet_or_wrote}
 use Rattle.mc_linearizable.proofs.ClientLemmas.{lived, one_life, read_hits, run_says, writer_between}
 use Rattle.mc_linearizable.proofs.FillLemmas.{win_same}
@@ -67,7 +67,7 @@ if_shown false flags = tt
 
 -- an item that `mg` makes is shown with W
 abbrev told_won : Show → ℕ → Turned → Turned
-told_won show moment o = (o.0, told show moment Won o.0 o.1)
+told_won show moment o = (o.0, meta_reply_of show moment Won o.0 o.1)
 
 none_made : (create : Option ℤ) (given : Given) (get : MetaGet) (moment : ℕ) (shown : Shown) (value : List ℕ) → get.create ≡ create
     → let o : Turned = option_map_or
@@ -129,7 +129,7 @@ record IsSeen (counter : ℕ) (front : List Done) (atom : Atom (List ℕ)) (hit 
 
 seen_get : (counter : ℕ) (order : Order) (histories : ℕ → List Entry) (log : Log) (key : List ℕ) → IsLinearizable counter order histories log key
     → (x : Executed order histories key) (front back : List Done) (done : Done) (at : List ℕ) (touch : Option ℤ) (with_cas : Bool) (flags : ℕ) (number : Option ℕ) (value : List ℕ)
-    → Tells order x.place x.entry done → IsRun counter None (front ++ done ∷ back) → x.atom ≡ atoms.Get at touch with_cas
+    → Records order x.place x.entry done → IsRun counter None (front ++ done ∷ back) → x.atom ≡ atoms.Get at touch with_cas
     → WasAnsweredBy order log (tag_in x.entry) (Hit flags number value) → IsSeen counter front x.atom (Hit flags number value)
 seen_get counter order histories log key h x front back done at touch with_cas flags number value tells run gets answered =
     let hit : IsHit done.reply = hit_read at done.reply flags number value
@@ -144,7 +144,7 @@ seen_get counter order histories log key h x front back done at touch with_cas f
       number = hit.cas;
       value = hit.value;
       run = run;
-      reads = told-atom order histories key x done tells ∙ gets;
+      reads = recorded-atom order histories key x done tells ∙ gets;
       hits = hit.is;
       shown = done.reply;
       same = sym (run_says counter order histories log key h x done (Hit flags number value) tells answered);
@@ -153,7 +153,7 @@ seen_get counter order histories log key h x front back done at touch with_cas f
 
 seen_mg : (counter : ℕ) (order : Order) (histories : ℕ → List Entry) (log : Log) (key : List ℕ) → IsLinearizable counter order histories log key
     → (x : Executed order histories key) (front back : List Done) (done : Done) (at : List ℕ) (get : MetaGet) (shown : Shown) (value : List ℕ)
-    → Tells order x.place x.entry done → IsRun counter None (front ++ done ∷ back) → x.atom ≡ atoms.Meta (metas.Get at get)
+    → Records order x.place x.entry done → IsRun counter None (front ++ done ∷ back) → x.atom ≡ atoms.Meta (metas.Get at get)
     → (get.create ≡ None) ⊎ (is_win shown.marks ≡ false) → WasAnsweredBy order log (tag_in x.entry) (Meta shown (Some value))
     → IsSeen counter front x.atom (Meta shown (Some value))
 seen_mg counter order histories log key h x front back done at get shown value tells run gets found answered =
@@ -165,7 +165,7 @@ seen_mg counter order histories log key h x front back done at get shown value t
     let wins : is_win own.shown.marks ≡ is_win shown.marks =
     win_same at get (Meta own.shown (Some own.value)) (Meta shown (Some value)) (ap (λ (r : AReply (List ℕ)). meta_spelling r) (sym own.is) ∙ bytes) in
     let not_made : (get.create ≡ None) ⊎ (is_win own.shown.marks ≡ false) = elim found [ inl none ↦ inl none | inr lost ↦ inr (wins ∙ lost) ] in
-    let reads : done.atom ≡ atoms.Meta (metas.Get at get) = told-atom order histories key x done tells ∙ gets in
+    let reads : done.atom ≡ atoms.Meta (metas.Get at get) = recorded-atom order histories key x done tells ∙ gets in
     let other = found_run front done back counter None at get own.shown own.value run reads own.is not_made in
     record {
       read = get_at done.moment other.0 own.value;
@@ -236,7 +236,7 @@ hit_kind (atoms.Meta (metas.Get key get)) (Fault fault) by = absurd by
 hit_kind (atoms.Meta (metas.Update update show)) hit by = absurd by
 
 seen : (counter : ℕ) (order : Order) (histories : ℕ → List Entry) (log : Log) (key : List ℕ) → IsLinearizable counter order histories log key
-    → (x : Executed order histories key) (front back : List Done) (done : Done) (hit : AReply (List ℕ)) → Tells order x.place x.entry done
+    → (x : Executed order histories key) (front back : List Done) (done : Done) (hit : AReply (List ℕ)) → Records order x.place x.entry done
     → IsRun counter None (front ++ done ∷ back) → HitsBy x.atom hit → WasAnsweredBy order log (tag_in x.entry) hit → IsSeen counter front x.atom hit
 seen counter order histories log key h x front back done hit tells run by answered =
     elim (hit_kind x.atom hit by) [
@@ -256,11 +256,11 @@ wrote_done (atoms.Meta (metas.Get key get)) update reply updates wrote = absurd 
 wrote_done (atoms.Meta (metas.Update own show)) update reply updates wrote = wrote
 
 stored_in_run : (counter : ℕ) (order : Order) (histories : ℕ → List Entry) (key : List ℕ) (x : Executed order histories key) (front back : List Done) (done : Done) (flags : ℕ)
-    (value : List ℕ) (s : StoresWhole x.atom flags value) → Tells order x.place x.entry done → IsRun counter None (front ++ done ∷ back) → HasWritten x
+    (value : List ℕ) (s : StoresWhole x.atom flags value) → Records order x.place x.entry done → IsRun counter None (front ++ done ∷ back) → HasWritten x
     → (update_in done.atom ≡ Some (Store s.mode s.compare s.key flags s.exptime value)) × (is_done done.reply ≡ true)
 stored_in_run counter order histories key x front back done flags value s tells run wrote =
     let update : Update (List ℕ) (List ℕ) = Store s.mode s.compare s.key flags s.exptime value in
-    let same : done.atom ≡ x.atom = told-atom order histories key x done tells in
+    let same : done.atom ≡ x.atom = recorded-atom order histories key x done tells in
     let updates : update_in done.atom ≡ Some (Store s.mode s.compare s.key flags s.exptime value) = ap (λ (a : Atom (List ℕ)). update_in a) same ∙ s.stores in
     let bytes : spelling_of x.atom done.reply ≡ spelling_of x.atom wrote.0 = ap (λ (a : Atom (List ℕ)). spelling_of a done.reply) (sym same) ∙ sym tells.reply ∙ wrote.1 in (
       updates,

@@ -11,8 +11,8 @@ use Rattle.mc_request.specs.declared.parts.Atom.{Atom}
 use Rattle.mc_request.specs.declared.parts.Atom.TheVariants as atoms
 use Rattle.mc_request.specs.declared.parts.Request.TheVariants as requests
 use Rattle.mc_request.specs.declared.parts.StoreMode.TheVariants.{Set}
-use Rattle.mc_request.specs.declared.parts.Taken.{Taken}
-use Rattle.mc_request.specs.declared.parts.Taken.TheVariants.{Whole}
+use Rattle.mc_request.specs.declared.parts.Parsed.{Parsed}
+use Rattle.mc_request.specs.declared.parts.Parsed.TheVariants.{Whole}
 use Rattle.mc_request.specs.declared.parts.Update.TheVariants.{Store}
 use Rattle.mc_reply.specs.Spelling.{spelling_of}
 use Rattle.mc_reply.specs.declared.replies.Reply.{Reply as AReply}
@@ -30,14 +30,14 @@ use Rattle.mc_cache.specs.CacheState.{CacheState}
 use Rattle.mc_account.specs.Lookups.{asked_at, command_at, outcome_at}
 use Rattle.mc_account.specs.Orders.{AreInOrder, IsSized, Order, TakenRequest, commands_to, entries_of, is_complete}
 use Rattle.mc_world.specs.declared.events.Event.TheVariants.{Emit}
-use Rattle.mc_world.specs.Accounts.{Accounts, NotAnswered, WasTaken}
-use Rattle.mc_world.specs.Logs.{IsRingAfter, Log, before, in_life, loses, moments_of, number_of, puts, serves, taken_before, takes, turns_of}
+use Rattle.mc_world.specs.Accounts.{Accounts, TakenBeforeAnswered}
+use Rattle.mc_world.specs.Logs.{IsRingAfter, Log, before, in_life, loses, moments_of, number_of, puts, taken_before, takes, turns_of}
 use Rattle.mc_world.specs.declared.logs.Logged.{Logged}
 use Rattle.mc_world.specs.declared.logs.Logged.TheVariants.{Happened}
 use Rattle.mc_history.specs.declared.entries.Entry.{Entry}
 use Rattle.mc_history.specs.Histories.{IsLegal, tag_in}
 use Rattle.mc_history.specs.Named.{tags_of}
-use Rattle.mc_pool_laws.specs.Told.{IsToldBy}
+use Rattle.mc_pool_laws.specs.Outcomes.{HasOutcomeBy}
 use Rattle.mc_pool_laws.proofs.MissExample.{nothing_read, owned}
 use Rattle.mc_pool_laws.proofs.NeedLemmas.{none_there, one_here, one_server, outcome_in_request, outs_of}
 use Rattle.mc_pool_laws.proofs.OrderExample.{tag_is}
@@ -47,10 +47,10 @@ use Rattle.mc_pool_laws.proofs.SentLemmas.{in_request}
 abbrev pub store_of : List ℕ → Atom (List ℕ)
 store_of value = atoms.Update (Store Set None (codes "k") 0 (pos 0) value)
 
-abbrev pub store_asked : List ℕ → Taken
+abbrev pub store_asked : List ℕ → Parsed
 store_asked value = Whole (requests.Update (Store Set None (codes "k") 0 (pos 0) value) false)
 
-abbrev pub asked_of : RingState → ℕ → Taken → Outcome → TakenRequest
+abbrev pub asked_of : RingState → ℕ → Parsed → Outcome → TakenRequest
 asked_of ring request what outcome = record { session = 0; request = request; what = what; ring = ring; losses = Told; outcomes = outcome ∷ [] }
 
 abbrev pub entry_of : ℕ → Atom (List ℕ) → AReply (List ℕ) → Entry
@@ -132,12 +132,6 @@ pub no_history : (place k : ℕ) (e : Entry) → slice_get (two_histories [] [] 
 no_history = by_place (λ place. (k : ℕ) (e : Entry) → slice_get (two_histories [] [] place) k ≡ Some e → ⊥) none_there none_there
     (λ place differ neither k e at. else_there [] [] place k e differ neither at)
 
--- a command was taken before its turn, and answered after it if its reply was taken
-abbrev pub IsPlacedAt : Order → Log → ℕ → ℕ → Entry → Type 0
-IsPlacedAt order log place k e =
-    WasTaken (tag_in e) (before (serves place) k log)
-    × ((reply : AReply (List ℕ)) → outcome_at order (tag_in e) ≡ Some (outcomes.Reply reply) → NotAnswered (tag_in e) (before (serves place) k log))
-
 -- the entries whose replies were taken are in the order of their requests
 abbrev pub AreRisen : Order → ℕ → List Entry → Type 0
 AreRisen order low [] = Unit {0}
@@ -182,7 +176,7 @@ pub record IsKnown (histories : ℕ → List Entry) (log : Log) (k : ℕ) (x : T
   pub outcome : Outcome
   pub routed : route_of_taken x.ring x.what ≡ to_place place atom ∷ []
   pub became : x.outcomes ≡ outcome ∷ []
-  pub told : IsToldBy histories log (tag_of 0 k 0) (to_place place atom) outcome
+  pub told : HasOutcomeBy histories log (tag_of 0 k 0) (to_place place atom) outcome
 
 -- the entry of its command gives the outcome, if its reply was taken
 pub replied_as : (histories : ℕ → List Entry) (log : Log) (k : ℕ) (x : TakenRequest) (place : ℕ) (atom : Atom (List ℕ)) (reply : AReply (List ℕ)) (n : ℕ) (e : Entry)
@@ -210,8 +204,8 @@ pub record IsSmall (ring : RingState) (opening : CacheState) (order : Order) (te
   pub numbers : ℕ → ℕ
   pub first_sites : Each (λ (k : ℕ) (e : Entry). (places e.request ≡ 0) × (numbers e.request ≡ k)) 0 first
   pub second_sites : Each (λ (k : ℕ) (e : Entry). (places e.request ≡ 1) × (numbers e.request ≡ k)) 0 second
-  pub first_placed : Each (IsPlacedAt order log 0) 0 first
-  pub second_placed : Each (IsPlacedAt order log 1) 0 second
+  pub first_placed : Each (TakenBeforeAnswered order log 0) 0 first
+  pub second_placed : Each (TakenBeforeAnswered order log 1) 0 second
   pub first_risen : AreRisen order 0 first
   pub second_risen : AreRisen order 0 second
   pub first_lost : number_of (loses 0) log ≡ 0 → first ≡ []
@@ -243,7 +237,7 @@ asked_own order own client request x at =
     (eqb-true 0 client there.0, there.1)
 
 asked_by : (order : Order) (text : List ℕ) → requests_of text ≡ map (λ (x : TakenRequest). x.what) order → (v : Bool)
-    → (untaken : List Taken) × (map (λ (x : TakenRequest). x.what) (if v then order else []) ++ untaken ≡ requests_of (if v then text else []))
+    → (untaken : List Parsed) × (map (λ (x : TakenRequest). x.what) (if v then order else []) ++ untaken ≡ requests_of (if v then text else []))
 asked_by order text read true = ([], append-nil (map (λ (x : TakenRequest). x.what) order) ∙ sym read)
 asked_by order text read false = ([], sym nothing_read)
 
@@ -269,7 +263,7 @@ nothing_left (suc n) (suc m) = refl
 -- the outcome of a command is shown
 known_by : (ring : RingState) (opening : CacheState) (order : Order) (text : List ℕ) (first second : List Entry) (log : Log) → IsSmall ring opening order text first second log
     → (tag : Tag) (place : ℕ) (atom : Atom (List ℕ)) (outcome : Outcome) → command_at order tag ≡ Some (to_place place atom) → outcome_at order tag ≡ Some outcome
-    → IsToldBy (two_histories first second) log tag (to_place place atom) outcome
+    → HasOutcomeBy (two_histories first second) log tag (to_place place atom) outcome
 known_by ring opening order text first second log h tag place atom outcome at became =
     let asked = in_request (asked_at order tag.session tag.request) tag.atom (to_place place atom) at in
     let own = asked_own order h.own tag.session tag.request asked.0 asked.1 in
@@ -280,9 +274,9 @@ known_by ring opening order text first second log h tag place atom outcome at be
     let same : told.0 ≡ asked.0 = same_Some told.0 asked.0 (sym told.1 ∙ asked.1) in
     let is = one_here known.outcome tag.atom outcome
     (ap (λ (os : List Outcome). slice_get os tag.atom) (sym (ap (λ (x : TakenRequest). x.outcomes) same ∙ known.became)) ∙ told.2) in
-    subst (λ (q : Outcome). IsToldBy (two_histories first second) log tag (to_place place atom) q) (sym is.1)
-    (subst (λ (c : Routed). IsToldBy (two_histories first second) log tag c known.outcome) (sym command.1)
-    (subst (λ (t : Tag). IsToldBy (two_histories first second) log t (to_place known.place known.atom) known.outcome) (tag_is tag tag.request own.0 refl command.0) known.told))
+    subst (λ (q : Outcome). HasOutcomeBy (two_histories first second) log tag (to_place place atom) q) (sym is.1)
+    (subst (λ (c : Routed). HasOutcomeBy (two_histories first second) log tag c known.outcome) (sym command.1)
+    (subst (λ (t : Tag). HasOutcomeBy (two_histories first second) log t (to_place known.place known.atom) known.outcome) (tag_is tag tag.request own.0 refl command.0) known.told))
 
 -- the place and index of an entry
 sites_by : (ring : RingState) (opening : CacheState) (order : Order) (text : List ℕ) (first second : List Entry) (log : Log) → (h : IsSmall ring opening order text first second log)
@@ -294,11 +288,11 @@ sites_by ring opening order text first second log h =
     (λ place differ neither k e at. absurd (else_there first second place k e differ neither at))
 
 placed_by : (ring : RingState) (opening : CacheState) (order : Order) (text : List ℕ) (first second : List Entry) (log : Log) → IsSmall ring opening order text first second log
-    → (place k : ℕ) (e : Entry) → slice_get (two_histories first second place) k ≡ Some e → IsPlacedAt order log place k e
+    → (place k : ℕ) (e : Entry) → slice_get (two_histories first second place) k ≡ Some e → TakenBeforeAnswered order log place k e
 placed_by ring opening order text first second log h =
-    by_place (λ place. (k : ℕ) (e : Entry) → slice_get (two_histories first second place) k ≡ Some e → IsPlacedAt order log place k e)
-    (λ k e at. each_of (IsPlacedAt order log 0) first h.first_placed k e at)
-    (λ k e at. each_of (IsPlacedAt order log 1) second h.second_placed k e at)
+    by_place (λ place. (k : ℕ) (e : Entry) → slice_get (two_histories first second place) k ≡ Some e → TakenBeforeAnswered order log place k e)
+    (λ k e at. each_of (TakenBeforeAnswered order log 0) first h.first_placed k e at)
+    (λ k e at. each_of (TakenBeforeAnswered order log 1) second h.second_placed k e at)
     (λ place differ neither k e at. absurd (else_there first second place k e differ neither at))
 
 ordered_by : (ring : RingState) (opening : CacheState) (order : Order) (text : List ℕ) (first second : List Entry) (log : Log) → IsSmall ring opening order text first second log

@@ -9,7 +9,7 @@ use Rattle.mc_history.specs.declared.entries.Entry.{Entry}
 use Rattle.mc_world.specs.Accounts.{Accounts, WasTaken}
 use Rattle.mc_world.specs.Logs.{Log, before, number_of, puts, takes}
 use Rattle.mc_world.specs.declared.logs.Logged.{Logged}
-use Rattle.mc_world.proofs.LogLemmas.{number-before}
+use Rattle.mc_world.proofs.Log.LogLemmas.{number-before}
 use Rattle.mc_pool_laws.proofs.PlaceLemmas.{before-front}
 use Rattle.mc_linearizable.specs.Linearizable.{IsEarlier}
 

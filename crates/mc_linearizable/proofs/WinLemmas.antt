@@ -14,13 +14,13 @@ use Rattle.mc_registers.specs.Registers.{Done}
 use Rattle.mc_registers.proofs.RecacheLemmas.{one_winner}
 use Rattle.mc_world.specs.Logs.{Log}
 use Rattle.mc_linearizable.specs.Linearizable.{Executed, IsLinearizablePool}
-use Rattle.mc_linearizable.specs.Clients.{AreTold, ComeBetween, NoneHasWritten, OneClientWins}
+use Rattle.mc_linearizable.specs.Clients.{AreRecorded, ComeBetween, NoneHasWritten, OneClientWins}
 use Rattle.mc_linearizable.proofs.CutLemmas.{told_has}
 use Rattle.mc_linearizable.proofs.FillLemmas.{run_wins}
 
 -- commands between two of which none has written
 have_not : (order : Order) (histories : ℕ → List Entry) (key : List ℕ) (a b : Executed order histories key) (xs : List (Executed order histories key)) (all : List Done)
-    → NoneHasWritten a b → ComeBetween a xs b → AreTold order xs all → HaveNotWritten all
+    → NoneHasWritten a b → ComeBetween a xs b → AreRecorded order xs all → HaveNotWritten all
 have_not order histories key a b [] [] none between told = tt
 have_not order histories key a b [] (done ∷ all) none between told = absurd told
 have_not order histories key a b (x ∷ xs) [] none between told = absurd told

@@ -23,9 +23,9 @@ use Rattle.mc_cache.specs.Step.{counted}
 use Rattle.mc_registers.specs.Guarantees.{IsSteadyRun, has_written, is_done, is_whole, may_have_written, update_in}
 use Rattle.mc_registers.specs.Recache.{has_won, is_win}
 use Rattle.mc_registers.specs.Registers.{Done, IsRun}
-use Rattle.mc_registers.specs.Told.{Tells}
+use Rattle.mc_registers.specs.Records.{Records}
 use Rattle.mc_world.specs.Logs.{Log, taken_before}
-use Rattle.mc_pool_laws.specs.Told.{WasAnswered}
+use Rattle.mc_pool_laws.specs.Outcomes.{WasAnswered}
 use Rattle.mc_linearizable.specs.Linearizable.{ComesFirst, Executed, IsEarlier}
 
 -- A command's request was answered, and the proxy took this reply to the command. With `noreply`, or if another key of the `get` was lost, the
@@ -167,11 +167,11 @@ OneClientFills order histories log key =
     → MayHaveWritten second
 
 -- each command is recorded: its command, its moment, and a reply with the bytes that its server's history has
-abbrev pub AreTold : {histories : ℕ → List Entry} {key : List ℕ} → (order : Order) → List (Executed order histories key) → List Done → Type 0
-AreTold order [] [] = Unit {0}
-AreTold order [] (done ∷ all) = ⊥
-AreTold order (x ∷ xs) [] = ⊥
-AreTold order (x ∷ xs) (done ∷ all) = Tells order x.place x.entry done × AreTold order xs all
+abbrev pub AreRecorded : {histories : ℕ → List Entry} {key : List ℕ} → (order : Order) → List (Executed order histories key) → List Done → Type 0
+AreRecorded order [] [] = Unit {0}
+AreRecorded order [] (done ∷ all) = ⊥
+AreRecorded order (x ∷ xs) [] = ⊥
+AreRecorded order (x ∷ xs) (done ∷ all) = Records order x.place x.entry done × AreRecorded order xs all
 
 -- `add`, and `ms ME`
 abbrev pub IsAdd : Atom (List ℕ) → Type 0
@@ -190,7 +190,7 @@ abbrev pub AnAddExcludes : Order → (ℕ → List Entry) → Log → List ℕ �
 AnAddExcludes order histories log key =
     (first add : Executed order histories key) → IsAdd add.atom → WasDone order log (tag_in add.entry) → NoneMayHaveWritten first add
     → (between : List (Executed order histories key)) → ComeBetween first between add
-    → (all : List Done) (last : Done) → AreTold order between all → Tells order add.place add.entry last
+    → (all : List Done) (last : Done) → AreRecorded order between all → Records order add.place add.entry last
     → (number : ℕ) (body : Body) → IsSteadyRun number (Some body) (all ++ last ∷ []) → ⊥
 
 -- One client wins while the item stays. Two clients were shown W, and no command between the two has written. Then no register that keeps its item gives the
@@ -199,7 +199,8 @@ abbrev pub OneClientWins : Order → (ℕ → List Entry) → Log → List ℕ �
 OneClientWins order histories log key =
     (winner rival : Executed order histories key) → WasShownWin log winner → WasShownWin log rival → NoneHasWritten winner rival
     → (between : List (Executed order histories key)) → ComeBetween winner between rival
-    → (one two : Done) (all : List Done) → Tells order winner.place winner.entry one → AreTold order between all → Tells order rival.place rival.entry two
+    → (one two : Done) (all : List Done) → Records order winner.place winner.entry one → AreRecorded order between all
+    → Records order rival.place rival.entry two
     → (number : ℕ) (held : Option Body) → IsSteadyRun number held (one ∷ (all ++ two ∷ [])) → ⊥
 
 -- commands of a server, in order, with numbers from one up to another
@@ -218,5 +219,5 @@ pub record HasRun (counter : ℕ) (order : Order) (histories : ℕ → List Entr
   pub rising : AreRising place (taken_before place life log) (taken_before place (suc life) log) commands
   pub all : (x : Executed order histories key) → x.place ≡ place → IsInLife life log x → IsAmong x.number commands
   pub run : List Done
-  pub told : AreTold order commands run
+  pub told : AreRecorded order commands run
   pub is_run : IsRun counter None run

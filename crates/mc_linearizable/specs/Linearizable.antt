@@ -13,7 +13,7 @@
 use Rattle.std.specs.Prelude.{ℕ, ◌≡◌, ◌<◌, ◌⊎◌, ◌++◌, true, List, Some, None, All, map, slice_get, take}
 use Rattle.mc_request.specs.Requests.{requests_of}
 use Rattle.mc_request.specs.declared.parts.Atom.{Atom}
-use Rattle.mc_request.specs.declared.parts.Taken.{Taken}
+use Rattle.mc_request.specs.declared.parts.Parsed.{Parsed}
 use Rattle.mc_reply.specs.Spelling.{spelling_of}
 use Rattle.mc_reply.specs.declared.replies.Reply.{Reply as AReply}
 use Rattle.mc_route.specs.Routes.{to_place}
@@ -27,11 +27,11 @@ use Rattle.mc_history.specs.declared.entries.Entry.{Entry}
 use Rattle.mc_history.specs.Histories.{tag_in}
 use Rattle.mc_registers.specs.Registers.{Done, IsRun}
 use Rattle.mc_registers.specs.Laws.{is_on}
-use Rattle.mc_registers.specs.Told.{TellEach, on_key}
-use Rattle.mc_world.specs.Accounts.{Accounts, IsToldLost, answers_by}
+use Rattle.mc_registers.specs.Records.{RecordEach, on_key}
+use Rattle.mc_world.specs.Accounts.{Accounts, WasNeverSentOrLost, answers_by}
 use Rattle.mc_world.specs.Logs.{Log, before, in_life, moments_of, number_of, puts, takes, turns_of}
 use Rattle.mc_world.specs.Worlds.{WorldState, cache_of, history_of, put_out_of, text_of}
-use Rattle.mc_pool_laws.specs.Told.{IsToldBy, WasAnswered}
+use Rattle.mc_pool_laws.specs.Outcomes.{HasOutcomeBy, WasAnswered}
 
 -- a command on a key that was executed: its entry is the one of this number in the history of this place
 pub record Executed (order : Order) (histories : ℕ → List Entry) (key : List ℕ) : Type 0 where
@@ -60,12 +60,12 @@ WasReplied order tag = (reply : AReply (List ℕ)) × (outcome_at order tag ≡ 
 abbrev pub Became : Order → (ℕ → List Entry) → Log → List ℕ → Tag → ℕ → Atom (List ℕ) → Outcome → Type 0
 Became order histories log key tag place atom (Reply reply) =
     (x : Executed order histories key) × (tag_in x.entry ≡ tag) × (x.entry.reply ≡ spelling_of atom reply)
-Became order histories log key tag place atom Lost = IsToldLost place tag (histories place) log
+Became order histories log key tag place atom Lost = WasNeverSentOrLost place tag (histories place) log
 Became order histories log key tag place atom Awaited = ⊥
 
 -- Of these entries those on a key are a run of its register. The register holds nothing at first, and answers each command what its entry has.
 abbrev pub AreOfRegister : ℕ → Order → ℕ → List ℕ → List Entry → Type 0
-AreOfRegister counter order place key entries = (all : List Done) × TellEach order place entries all × IsRun counter None (on_key key all)
+AreOfRegister counter order place key entries = (all : List Done) × RecordEach order place entries all × IsRun counter None (on_key key all)
 
 -- A key is linearizable: by its order, which each life of each server continues.
 pub record IsLinearizable (counter : ℕ) (order : Order) (histories : ℕ → List Entry) (log : Log) (key : List ℕ) : Type 0 where
@@ -83,7 +83,7 @@ pub record IsLinearizable (counter : ℕ) (order : Order) (histories : ℕ → L
 -- account, and not this, says which rings route requests.
 pub record IsLinearizablePool (losses : Losses) (counter : ℕ) (order : Order) (texts outs : ℕ → List ℕ) (histories : ℕ → List Entry) (log : Log) : Type 0 where
   -- the requests of each client were taken as it sent them, in order, by the turns of the log; each of their commands has its outcome
-  pub asked : (client : ℕ) → (untaken : List Taken) × (taken_of client order ++ untaken ≡ requests_of (texts client))
+  pub asked : (client : ℕ) → (untaken : List Parsed) × (taken_of client order ++ untaken ≡ requests_of (texts client))
   pub turns : map (λ (e : TakenRequest). e.session) order ≡ turns_of log
   pub sized : All IsSized order
   -- each client was given the answers to its first requests, one for each put of the log, by the outcomes of their commands and the choice for
@@ -92,7 +92,7 @@ pub record IsLinearizablePool (losses : Losses) (counter : ℕ) (order : Order) 
   pub after : (client request : ℕ) → request < number_of (puts client) log → request < number_of (takes client) (before (puts client) request log)
   -- the outcome of each of these commands is the reply that its server gave, or that it was lost, as the log shows
   pub told : (tag : Tag) (place : ℕ) (atom : Atom (List ℕ)) → command_at order tag ≡ Some (to_place place atom) → WasAnswered tag log
-      → (outcome : Outcome) × (outcome_at order tag ≡ Some outcome) × IsToldBy histories log tag (to_place place atom) outcome
+      → (outcome : Outcome) × (outcome_at order tag ≡ Some outcome) × HasOutcomeBy histories log tag (to_place place atom) outcome
   -- a history has one entry for each turn of its server, at its moment
   pub moments : (place : ℕ) → map (λ (e : Entry). e.moment) (histories place) ≡ moments_of place log
   -- each key is linearizable

@@ -13,7 +13,7 @@ ghost use Rattle.mc_history.specs.Histories.{HasNone, tag_in};
 ghost use Rattle.mc_world.specs.Accounts.{Account, Accounts, up_when_taken};
 ghost use Rattle.mc_world.specs.Logs.{Log};
 ghost use Rattle.mc_pool_laws.specs.Sent.{IsSent};
-ghost use Rattle.mc_pool_laws.specs.Told.{HasOneEntry};
+ghost use Rattle.mc_pool_laws.specs.Outcomes.{HasOneEntry};
 ghost use Rattle.mc_linearizable.specs.Linearizable.{ComesFirst, Executed, IsEarlier};
 
 /// A command that a client sent happens once, at the server that owns its key, or not at all, whatever the client's answer. This holds for a lost

@@ -6,7 +6,7 @@
 //! [`Link::make_room`] takes the memory for several commands at once. [`Link::output`] is the output to write;
 //! [`Link::taken_out`] consumes what was written. [`Link::feed`] takes the server's bytes, in pieces of any size. A
 //! [`Link::turn`] takes at most one reply, that of the oldest pending command. If the connection fails, [`Link::lose`]
-//! returns the bytes that were not sent and the pending commands, and the link is down again. [`Link::give_back`] frees
+//! returns the bytes that were not sent and the pending commands, and the link is down again. [`Link::shrink_if_idle`] frees
 //! large empty buffers. [`Link::is_up`], [`Link::generation`], [`Link::waiting`] and [`Link::tag`] report its state.
 //!
 //! `specs/LinkState.antt` says what a link is, and `specs/Turns.antt` what a turn does. At each error of [`LinkError`]

@@ -5,7 +5,7 @@ ghost use Rattle.std.specs.Bool.{OnFalse};
 use crate::turns::{LinkError, LinkTurn, LostLink, Tag};
 use mc_codec::{LentStore, NextReply, ReplyReader, write_atom, write_store};
 use mc_request::{Atom, Head, Update};
-use mc_text::{Block, drop_front, give_back, let_go};
+use mc_text::{Block, consume_front, drain_front, shrink_if_idle};
 use std::alloc::Global;
 use std::collections::VecDeque;
 use std::marker::Model;
@@ -244,7 +244,7 @@ impl Link {
         ensures taken { self.new.state ≡ record self.old.state { output = drop count self.old.state.output } }
         ensures room { KeepsRoom self.old self.new }
     {
-        self.sent = let_go(&mut self.output, self.sent + count);
+        self.sent = consume_front(&mut self.output, self.sent + count);
     }
 
     /// Takes the bytes that arrived next from the server.
@@ -319,7 +319,7 @@ impl Link {
     {
         self.needs_up()?;
         let mut bytes = mem::replace(&mut self.output, Vec::new(alloc));
-        drop_front(&mut bytes, self.sent);
+        drain_front(&mut bytes, self.sent);
         let waiting = mem::replace(&mut self.waiting, VecDeque::new(alloc));
         self.up = false;
         self.sent = 0;
@@ -333,13 +333,13 @@ impl Link {
 
     /// Frees the memory of each empty buffer (output, received bytes, pending commands) that has room for more than `kept`
     /// bytes or commands.
-    pub fn give_back(&mut self, kept: usize)
+    pub fn shrink_if_idle(&mut self, kept: usize)
         ensures { self.new.state ≡ self.old.state }
     {
-        give_back(&mut self.output, kept);
+        shrink_if_idle(&mut self.output, kept);
         if self.waiting.is_empty() && self.waiting.capacity() > kept {
             self.waiting.shrink_to_fit();
         }
-        self.reader.give_back(kept);
+        self.reader.shrink_if_idle(kept);
     }
 }

@@ -8,7 +8,7 @@ use Rattle.std.specs.Str.Lines.{strip_carriage_return}
 use Rattle.mc_text.proofs.FieldLemmas.{either}
 use Rattle.mc_text.specs.Words.{words}
 use Rattle.mc_net.specs.FirstLines.{is_version, end_in_version}
-use Rattle.mc_net.specs.Places.{ends, EndsTheSame, ending_text}
+use Rattle.mc_net.specs.WordStarts.{ends, EndsTheSame, ending_text}
 use Rattle.mc_net.specs.declared.endings.Ending.{Ending}
 use Rattle.mc_net.specs.declared.endings.Ending.TheVariants.{Between, H, Ht, Htt, Http, Version, Spaces, Return, Other}
 

@@ -10,11 +10,11 @@ use Rattle.mc_text.specs.Words.{words}
 use Rattle.mc_request.specs.Names.{name_of}
 use Rattle.mc_net.specs.FirstLines.{is_command, is_version, end_in_version, line_says, front_says, all_but_last, ended_words, lines_say, first_line_says}
 use Rattle.mc_net.specs.FirstWords.{is_word}
-use Rattle.mc_net.specs.Places.{ends, EndsTheSame, SaysTheSame, ending_text, place_text}
+use Rattle.mc_net.specs.WordStarts.{ends, EndsTheSame, SaysTheSame, ending_text, place_text}
 use Rattle.mc_net.specs.declared.endings.Ending.{Ending}
 use Rattle.mc_net.specs.declared.endings.Ending.TheVariants.{Between, H, Ht, Htt, Http, Version, Spaces, Return, Other}
 use Rattle.mc_net.specs.declared.first_words.FirstWord.{FirstWord}
-use Rattle.mc_net.specs.declared.places.WordStart.TheVariants.{First, Later}
+use Rattle.mc_net.specs.declared.word_starts.WordStart.TheVariants.{First, Later}
 use Rattle.mc_net.specs.declared.openings.Stranger.TheVariants as strangers
 use Rattle.mc_net.specs.declared.openings.Opening.{Opening}
 use Rattle.mc_net.specs.declared.openings.Opening.TheVariants.{Unsettled, Text, Strange}

@@ -9,10 +9,10 @@ use Rattle.std.specs.Str.Lines.{strip_carriage_return}
 use Rattle.mc_text.proofs.FieldLemmas.{either}
 use Rattle.mc_text.specs.Words.{words, without_spaces}
 use Rattle.mc_net.specs.FirstLines.{end_in_version, first_line_says}
-use Rattle.mc_net.specs.Places.{ends, EndsTheSame, SaysTheSame, ending_text, place_text}
+use Rattle.mc_net.specs.WordStarts.{ends, EndsTheSame, SaysTheSame, ending_text, place_text}
 use Rattle.mc_net.specs.declared.endings.Ending.{Ending}
-use Rattle.mc_net.specs.declared.places.WordStart.{WordStart}
-use Rattle.mc_net.specs.declared.places.WordStart.TheVariants.{Later}
+use Rattle.mc_net.specs.declared.word_starts.WordStart.{WordStart}
+use Rattle.mc_net.specs.declared.word_starts.WordStart.TheVariants.{Later}
 use Rattle.mc_net.proofs.EndLemmas.{cut, lacks, is_space, is_run, words_after, strip_more, strip_after}
 use Rattle.mc_net.proofs.LineLemmas.{space_in_front, empty_line, is_feed, ending_lacks, later, whole}
 

@@ -6,7 +6,7 @@ use Rattle.std.specs.Str.Lines.{strip_carriage_return}
 use Rattle.mc_text.proofs.FieldLemmas.{either}
 use Rattle.mc_net.specs.FirstLines.{is_command, is_version, front_says, ended_words, first_line_says}
 use Rattle.mc_net.specs.FirstWords.{is_word, is_word_byte}
-use Rattle.mc_net.specs.Places.{ends, SaysTheSame}
+use Rattle.mc_net.specs.WordStarts.{ends, SaysTheSame}
 use Rattle.mc_net.specs.declared.openings.Opening.TheVariants.{Unsettled}
 use Rattle.mc_net.proofs.EndLemmas.{lacks, lacks_more}
 use Rattle.mc_net.proofs.LineLemmas.{is_feed, says_by, line_ended, text_stays, strange_stays, no_spaces, no_feeds, not_command, front_spaced, words_of_spaced, says_other, space_in_front, command_spaced, empty_line, command_alone, version_alone_is, other_alone, text_says, strange_says, says_text, says_strange, first_alone, front_alone, front_x}

@@ -20,8 +20,8 @@ abbrev pub new_acceptor : ℕ → AcceptorState
 new_acceptor limit = record { limit = limit; accepted = 0; backlog = Nobody }
 
 -- the listener was reported
-abbrev pub told : AcceptorState → AcceptorState
-told acceptor = record acceptor { backlog = More }
+abbrev pub reported : AcceptorState → AcceptorState
+reported acceptor = record acceptor { backlog = More }
 
 -- as many as the limit were accepted
 abbrev pub is_shut : AcceptorState → Bool

@@ -1,10 +1,10 @@
 pub mod Openings
 pub mod FirstLines
 pub mod FirstWords
-pub mod Places
+pub mod WordStarts
 pub mod Acceptors
 pub mod Bindings
 pub mod Keeping
-pub mod Steps
+pub mod AfterPumps
 pub mod Lists
 pub mod Listings

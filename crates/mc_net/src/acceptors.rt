@@ -54,7 +54,7 @@ impl Model for Acceptor {
 }
 
 impl Acceptor {
-    ghost use Rattle.mc_net.specs.Acceptors.{new_acceptor, told, is_shut, IsAccept};
+    ghost use Rattle.mc_net.specs.Acceptors.{new_acceptor, reported, is_shut, IsAccept};
 
     /// Makes an acceptor that has accepted no connection, and will accept `limit`; 0 for no limit.
     pub fn new(listener: TcpListener, limit: u64) -> Acceptor
@@ -77,7 +77,7 @@ impl Acceptor {
 
     /// Records that a poll has reported the listener.
     pub fn note(&mut self)
-        ensures { self.new ≡ told self.old }
+        ensures { self.new ≡ reported self.old }
     {
         self.backlog = Backlog::More;
     }

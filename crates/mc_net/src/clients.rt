@@ -3,6 +3,7 @@ ghost use Rattle.std.specs.Prelude.{◌≡◌, ◌-◌, ◌<◌, ◌^◌, IfOk, 
 ghost use Rattle.mc_net.specs.Lists.{all_shown, count_after, known_of, place_of, shown_of};
 
 use crate::acceptors::Backlog;
+use crate::after_pumps::AfterPump;
 use crate::conns::{Known, LIST_LEN, Listed, Owed, conn_of};
 use crate::first_lines::FirstLine;
 use crate::handlers::{Client, Handler};
@@ -10,7 +11,6 @@ use crate::inputs::Readiness;
 use crate::limits::KEPT_ROOM;
 use crate::openings::{Opening, Stranger};
 use crate::reports::Report;
-use crate::steps::AfterPump;
 use crate::strangers::{Refusal, opening};
 use mc_program::{EprintSeldom, OncePerSecond, Said, Ticker, earlier};
 use mc_stream::IoStats;
@@ -325,7 +325,7 @@ impl<K: Default + Drop> Clients<K> {
                     self.close(handler, key);
                 }
             }
-            AfterPump::Wait => handler.give_back(slot.client.number, KEPT_ROOM),
+            AfterPump::Wait => handler.shrink_if_idle(slot.client.number, KEPT_ROOM),
             AfterPump::Close => match slot.client.first.opening() {
                 Opening::Strange(stranger) => self.turn_away(handler, key, stranger),
                 _ => self.close(handler, key),
@@ -389,7 +389,7 @@ impl<K: Default + Drop> Clients<K> {
         if mem::replace(&mut slot.busy, false) {
             self.busy = true;
         } else {
-            handler.give_back(number, 0);
+            handler.shrink_if_idle(number, 0);
         }
         if handler.owes(number) {
             slot.used = moment;

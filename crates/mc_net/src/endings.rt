@@ -1,6 +1,6 @@
 //! The end of a line, after its first word.
 ghost use Rattle.std.specs.Prelude.{ℕ, List, ◌≡◌, ◌≢◌, ◌≤◌, ◌++◌, ◌∷◌, [], length, IfSome, if◌then◌else◌};
-ghost use Rattle.mc_net.specs.Places.{EndsTheSame, ending_text, ends};
+ghost use Rattle.mc_net.specs.WordStarts.{EndsTheSame, ending_text, ends};
 
 use crate::spaces::alike_at_end;
 use mc_text::without_spaces;

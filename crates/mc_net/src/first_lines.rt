@@ -2,7 +2,7 @@
 
 use crate::first_words::FirstWord;
 use crate::openings::Opening;
-use crate::places::WordStart;
+use crate::word_starts::WordStart;
 
 /// What is kept of the first non-empty line of a connection, and of the empty ones in front of it. Contracts see a text that says the
 /// same as the bytes so far, whatever follows.
@@ -14,7 +14,7 @@ pub struct FirstLine {
 impl FirstLine {
     ghost use Rattle.std.specs.Prelude.{ℕ, List, ◌≡◌, ◌≢◌, ◌++◌, []};
     ghost use Rattle.mc_net.specs.FirstLines.{first_line_says};
-    ghost use Rattle.mc_net.specs.Places.{SaysTheSame, kept_text};
+    ghost use Rattle.mc_net.specs.WordStarts.{SaysTheSame, kept_text};
 
     /// Makes the state before the first byte.
     pub fn new() -> FirstLine

@@ -3,9 +3,10 @@ ghost use Rattle.std.specs.Prelude.{◌≡◌, ◌≢◌, ◌++◌, None, take, 
 ghost use Rattle.std.specs.Io.{ReadsAtMost};
 ghost use Rattle.std.specs.Io.KnownBytes.{ReadConsumes};
 ghost use Rattle.mc_net.specs.FirstLines.{first_line_says};
-ghost use Rattle.mc_net.specs.Places.{SaysTheSame, kept_text};
+ghost use Rattle.mc_net.specs.WordStarts.{SaysTheSame, kept_text};
 
 use crate::first_lines::FirstLine;
+use crate::inputs::{Input, Readiness};
 use crate::openings::{Opening, Stranger};
 use mio::net::TcpStream;
 use std::io;
@@ -59,6 +60,15 @@ impl Guard<'_> {
             return Err(refused());
         }
         Ok(count)
+    }
+}
+
+/// Returns the input of a client, by its socket, and by what is known of its first line and of its input. After the reads its caller keeps
+/// what `readiness` and `first` of it are then.
+pub fn guarded(stream: &TcpStream, first: FirstLine, readiness: Readiness) -> Input<Guard<'_>> {
+    Input {
+        stream: Guard { stream, first },
+        readiness,
     }
 }
 

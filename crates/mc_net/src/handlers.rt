@@ -1,9 +1,9 @@
 //! A client, and its handler.
 ghost use Rattle.std.specs.Prelude.{◌≡◌, ◌<◌, ◌^◌};
 
+use crate::after_pumps::AfterPump;
 use crate::first_lines::FirstLine;
 use crate::inputs::Readiness;
-use crate::steps::AfterPump;
 use mc_stream::IoStats;
 use mio::net::TcpStream;
 
@@ -41,7 +41,7 @@ pub trait Handler<K> {
         ensures { client.new.number ≡ client.old.number };
 
     /// Frees the memory that is reserved for a client's empty buffers, except `room` bytes of each.
-    fn give_back(&mut self, number: u64, room: usize);
+    fn shrink_if_idle(&mut self, number: u64, room: usize);
 
     /// Returns whether a client has pending answers.
     fn owes(&self, number: u64) -> bool;

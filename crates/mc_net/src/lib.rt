@@ -24,8 +24,8 @@
 //! [`Room`] is how many clients the open files of a program allow, and a [`Listed`] which clients are connected, at most [`LIST_LEN`] at a
 //! time.
 //!
-//! A client is served once its first bytes are known not to be a stranger's ([`opening_of`]). It is read through a [`Guard`], which reads
-//! no line that shows a stranger ([`FirstLine`]). A stranger is closed, and a line on standard error says so ([`Clients::tell`]).
+//! A client is served once its first bytes are known not to be a stranger's ([`opening_of`]). It is read through a [`Guard`] ([`guarded`]), which
+//! reads no line that shows a stranger ([`FirstLine`]). A stranger is closed, and a line on standard error says so ([`Clients::tell`]).
 //!
 //! [`serve_rounds`] blocks, possibly for ever; of the other calls only those that print on standard error may. It is proved that they are
 //! safe, and that each except [`serve_rounds`] ends. It is proved too that no read of a [`Guard`] returns the whole first line of a
@@ -69,6 +69,7 @@
 #![tactic(auto)]
 
 mod acceptors;
+mod after_pumps;
 mod binding;
 mod budgets;
 mod clients;
@@ -85,25 +86,25 @@ mod limits;
 mod openings;
 mod operator_slots;
 mod operators;
-mod places;
 mod processes;
 mod reports;
 mod resets;
 mod rooms;
 mod rounds;
 mod spaces;
-mod steps;
 mod stopwatches;
 mod stranger_laws;
 mod strangers;
+mod word_starts;
 
 pub use acceptors::{Acceptor, Backlog};
+pub use after_pumps::{AfterPump, step_after};
 pub use binding::{bind, first_address, spelled_address};
 pub use budgets::STEPS;
 pub use clients::Clients;
 pub use conns::{LIST_LEN, Listed, Owed};
 pub use first_lines::FirstLine;
-pub use guards::Guard;
+pub use guards::{Guard, guarded};
 pub use handlers::{Client, Handler};
 pub use inputs::{Input, Readiness};
 pub use keeping::{CLIENT_KEEPALIVE, Keepalive, keep_alive, keep_alive_by};
@@ -116,7 +117,6 @@ pub use reports::Report;
 pub use resets::reset;
 pub use rooms::Room;
 pub use rounds::{LoopHandler, poll_timeout, serve_rounds};
-pub use steps::{AfterPump, step_after};
 pub use stopwatches::Stopwatch;
 pub use stranger_laws::{
     commands_are_text, first_lines_of_strangers, first_lines_of_text, first_lines_stay,

@@ -2,9 +2,9 @@
 ghost use Rattle.std.specs.Prelude.{◌≡◌, ◌<◌, length};
 ghost use Rattle.mc_net.specs.Listings.{listing_of};
 
+use crate::after_pumps::AfterPump;
 use crate::budgets::Budget;
 use crate::inputs::{Input, Readiness};
-use crate::steps::AfterPump;
 use mc_admin::{AdminError, AdminRequest, Hosts, REQUEST_LIMIT, Sheet, Talk};
 use mc_stream::{Pumped, read_once, write_once};
 use mio::event::Event;

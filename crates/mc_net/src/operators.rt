@@ -3,10 +3,10 @@ ghost use Rattle.std.specs.Prelude.{◌≡◌, ◌<◌, ◌-◌, option_map, vec
 ghost use Rattle.mc_net.specs.Listings.{first_listing, listed_by, next_listing};
 
 use crate::acceptors::{Acceptor, Backlog};
+use crate::after_pumps::AfterPump;
 use crate::binding::bind;
 use crate::budgets::Budget;
 use crate::operator_slots::{OperatorSlot, QUIET};
-use crate::steps::AfterPump;
 use mc_admin::{REQUEST_LIMIT, Sheet, host_of};
 use mc_program::{AdminTerms, ServeError, earlier};
 use mio::event::Event;

@@ -4,7 +4,7 @@ ghost use Rattle.std.specs.Prelude.{◌≡◌, nat_le};
 use mc_program::{Ticker, open_files, served};
 
 /// The seconds between two lines that say that no more clients are accepted.
-const TOLD_EVERY: u64 = 60;
+const LINE_EVERY: u64 = 60;
 
 /// How many clients a program serves at a time, so that others have a descriptor left. Waiting clients must take neither that of a lost
 /// server that comes back, nor that of an operator.
@@ -15,7 +15,7 @@ pub struct Room {
     /// How many of these are left for clients.
     clients: u64,
     /// When the next line may say that these are used up.
-    told: Ticker,
+    next_line: Ticker,
 }
 
 impl Room {
@@ -25,8 +25,8 @@ impl Room {
         Room {
             files,
             clients: served(files, others),
-            told: Ticker {
-                every: TOLD_EVERY,
+            next_line: Ticker {
+                every: LINE_EVERY,
                 next: 0,
             },
         }
@@ -41,7 +41,7 @@ impl Room {
 
     /// Prints on standard error, as the program of a name and at most once a minute, that it is used up.
     pub fn tell<R: Eprint>(&mut self, rt: &R, program: &str, second: u64) {
-        if self.told.comes(second) {
+        if self.next_line.comes(second) {
             let (files, clients) = (self.files, self.clients);
             // Best effort: a failed write to standard error must not stop serving.
             let _ = eprintln!(rt; "{program}: no more clients: {files} open files allow {clients}");

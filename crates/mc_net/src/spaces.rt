@@ -1,6 +1,6 @@
 //! Spaces and empty lines in front of a text: they are ignored.
 ghost use Rattle.std.specs.Prelude.{◌≡◌, ◌<◌, ◌≤◌, ◌∷◌, IfSome, length};
-ghost use Rattle.mc_net.specs.Places.{SaysTheSame};
+ghost use Rattle.mc_net.specs.WordStarts.{SaysTheSame};
 
 use mc_text::{LANES, without_spaces};
 use std::simd::prelude::*;

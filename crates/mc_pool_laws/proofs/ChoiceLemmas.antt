@@ -8,8 +8,8 @@ use Rattle.mc_request.specs.declared.meta.MetaGet.{MetaGet}
 use Rattle.mc_request.specs.declared.parts.Atom.TheVariants as atoms
 use Rattle.mc_request.specs.declared.parts.Request.{Request}
 use Rattle.mc_request.specs.declared.parts.Request.TheVariants.{Get, Meta}
-use Rattle.mc_request.specs.declared.parts.Taken.{Taken}
-use Rattle.mc_request.specs.declared.parts.Taken.TheVariants.{Whole}
+use Rattle.mc_request.specs.declared.parts.Parsed.{Parsed}
+use Rattle.mc_request.specs.declared.parts.Parsed.TheVariants.{Whole}
 use Rattle.mc_reply.specs.MetaSpelling.{meta_spelling}
 use Rattle.mc_reply.specs.Spelling.{answer_of, end_line}
 use Rattle.mc_reply.specs.declared.replies.Reply.{Reply as AReply}
@@ -29,13 +29,13 @@ use Rattle.mc_proxy.specs.Emits.{answer_by}
 use Rattle.mc_proxy.specs.Sending.{tag_of}
 use Rattle.mc_history.specs.declared.entries.Entry.{Entry}
 use Rattle.mc_history.specs.Histories.{HasReply}
-use Rattle.mc_world.specs.Accounts.{IsToldLost}
+use Rattle.mc_world.specs.Accounts.{WasNeverSentOrLost}
 use Rattle.mc_world.specs.Logs.{Log}
 use Rattle.mc_pool_laws.specs.Choices.{HaveReplies, ShowReplies, ShowsReply}
-use Rattle.mc_pool_laws.specs.Told.{AreToldBy, IsAnswerTo, IsToldBy}
+use Rattle.mc_pool_laws.specs.Outcomes.{HaveOutcomesBy, IsAnswerTo, HasOutcomeBy}
 
 -- what is shown for a key
-shown_part : (histories : ℕ → List Entry) (log : Log) (tag : Tag) (command : Routed) (key : List ℕ) (outcome : Outcome) → IsToldBy histories log tag command outcome
+shown_part : (histories : ℕ → List Entry) (log : Log) (tag : Tag) (command : Routed) (key : List ℕ) (outcome : Outcome) → HasOutcomeBy histories log tag command outcome
     → (outcome_part key outcome ≡ []) ⊎ ShowsReply histories tag command key (outcome_part key outcome)
 shown_part histories log tag command key (Reply (Hit flags cas value)) told = inr (record { flags = flags; cas = cas; value = value; shown = refl; replied = told })
 shown_part histories log tag command key (Reply other) told = inl refl
@@ -43,7 +43,7 @@ shown_part histories log tag command key Lost told = inl refl
 shown_part histories log tag command key Awaited told = inl refl
 
 shown_blocks : (histories : ℕ → List Entry) (log : Log) (client request at : ℕ) (commands : List Routed) (outcomes : List Outcome) (keys : List (List ℕ))
-    → AreToldBy histories log client request at commands outcomes → ShowReplies histories client request at commands keys (blocks_by keys outcomes)
+    → HaveOutcomesBy histories log client request at commands outcomes → ShowReplies histories client request at commands keys (blocks_by keys outcomes)
 shown_blocks histories log client request at [] [] [] told = refl
 shown_blocks histories log client request at [] [] (key ∷ keys) told = refl
 shown_blocks histories log client request at [] (o ∷ os) keys told = absurd told
@@ -64,7 +64,7 @@ Shows histories client request commands keys answer =
 -- the bytes of an answer to a whole request
 bytes_of : (losses : Losses) (ring : RingState) (texts : ℕ → List ℕ) (histories : ℕ → List Entry) (log : Log) (client request : ℕ) (answer : List ℕ)
     → (h : IsAnswerTo losses ring texts histories log client request answer) → (what : Request) → h.what ≡ Whole what → answer ≡ joined_with losses what h.outcomes
-bytes_of losses ring texts histories log client request answer h what is = h.bytes ∙ ap (λ (t : Taken). answer_by losses t h.outcomes) is
+bytes_of losses ring texts histories log client request answer h what is = h.bytes ∙ ap (λ (t : Parsed). answer_by losses t h.outcomes) is
 
 pub shown_missed : (ring : RingState) (texts : ℕ → List ℕ) (histories : ℕ → List Entry) (log : Log) (client request : ℕ) (answer : List ℕ)
     → (h : IsAnswerTo Missed ring texts histories log client request answer) → (keys : List (List ℕ)) (exptime : Option ℤ) (with_cas : Bool) → h.what ≡ Whole (Get keys exptime with_cas)
@@ -106,10 +106,10 @@ abbrev ShowsMeta : RingState → (ℕ → List Entry) → Log → ℕ → ℕ �
 ShowsMeta ring histories log client request key get form answer =
     ((reply : AReply (List ℕ)) × (answer ≡ answer_of (Meta (metas.Get key get) form) (reply ∷ []))
     × HasReply (histories (owner_in ring key)) (tag_of client request 0) (meta_spelling reply))
-    ⊎ ((answer ≡ (if form.quiet then [] else codes "EN\r\n")) × IsToldLost (owner_in ring key) (tag_of client request 0) (histories (owner_in ring key)) log)
+    ⊎ ((answer ≡ (if form.quiet then [] else codes "EN\r\n")) × WasNeverSentOrLost (owner_in ring key) (tag_of client request 0) (histories (owner_in ring key)) log)
 
 meta_by : (ring : RingState) (histories : ℕ → List Entry) (log : Log) (client request : ℕ) (key : List ℕ) (get : MetaGet) (form : MetaForm (List (List ℕ)))
-    (outcomes : List Outcome) → AreToldBy histories log client request 0 (to_owner ring key (atoms.Meta (metas.Get key get)) ∷ []) outcomes
+    (outcomes : List Outcome) → HaveOutcomesBy histories log client request 0 (to_owner ring key (atoms.Meta (metas.Get key get)) ∷ []) outcomes
     → ShowsMeta ring histories log client request key get form (joined_with Missed (Meta (metas.Get key get) form) outcomes)
 meta_by ring histories log client request key get form [] told = absurd told
 meta_by ring histories log client request key get form (Reply reply ∷ []) told = inl (reply, refl, told.0)
@@ -124,11 +124,11 @@ shown_meta_missed ring texts histories log client request answer h key get form 
     subst (λ (bytes : List ℕ). ShowsMeta h.ring histories log client request key get form bytes)
     (sym (bytes_of Missed ring texts histories log client request answer h (Meta (metas.Get key get) form) is))
     (meta_by h.ring histories log client request key get form h.outcomes
-    (subst (λ (t : Taken). AreToldBy histories log client request 0 (route_of_taken h.ring t) h.outcomes) is h.told))
+    (subst (λ (t : Parsed). HaveOutcomesBy histories log client request 0 (route_of_taken h.ring t) h.outcomes) is h.told))
 
 -- if no command was lost, each has a reply
 all_replied : (histories : ℕ → List Entry) (log : Log) (client request at : ℕ) (commands : List Routed) (outcomes : List Outcome) → has_lost outcomes ≡ false
-    → AreToldBy histories log client request at commands outcomes → HaveReplies histories client request at commands (replies_in outcomes)
+    → HaveOutcomesBy histories log client request at commands outcomes → HaveReplies histories client request at commands (replies_in outcomes)
 all_replied histories log client request at [] [] none told = tt
 all_replied histories log client request at [] (o ∷ os) none told = absurd told
 all_replied histories log client request at (c ∷ cs) [] none told = absurd told

@@ -17,8 +17,8 @@ use Rattle.mc_world.specs.Quiet.{IsQuiet}
 use Rattle.mc_world.specs.Worlds.{CourseState, history_of, put_out_of, taken_by, text_of}
 use Rattle.mc_world.specs.declared.logs.Logged.TheVariants.{Happened}
 use Rattle.mc_pool_laws.specs.Drained.{is_of_drain_at}
-use Rattle.mc_pool_laws.specs.Told.{AreAnswersFrom}
-use Rattle.mc_pool_laws.proofs.ToldLemmas.{put_answers}
+use Rattle.mc_pool_laws.specs.Outcomes.{AreAnswersFrom}
+use Rattle.mc_pool_laws.proofs.OutcomeLemmas.{put_answers}
 
 -- an event of a drain, as the log keeps it
 drained_event : (moment : ℕ) (event : Event (List ℕ)) → is_of_drain moment event ≡ true → is_of_drain_at moment (Happened (bare event)) ≡ true

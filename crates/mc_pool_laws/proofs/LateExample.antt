@@ -19,7 +19,7 @@ use Rattle.mc_history.specs.Histories.{HasReply, IsLegal, tag_in}
 use Rattle.mc_history.specs.Named.{tags_of}
 use Rattle.mc_world.specs.Accounts.{NotAnswered}
 use Rattle.mc_world.specs.Logs.{Log, before, in_life, loses, number_of, puts, serves, takes}
-use Rattle.mc_pool_laws.specs.Told.{LinkHeld}
+use Rattle.mc_pool_laws.specs.Outcomes.{LinkHeld}
 use Rattle.mc_pool_laws.specs.Without.{AccountsBut, Allows, Unanswered}
 use Rattle.mc_pool_laws.proofs.SentLemmas.{in_request}
 use Rattle.mc_pool_laws.proofs.NeedLemmas.{Follows, a_cache, after_one, asked_by, asked_only, asked_text, complete_of, first_only, first_there, flush, flush_asked, flush_text, flushed, follows_one, lives_of_first, moments_one, no_loss, numbered_one, once_in_one, one_here, one_outcome, one_server, outs_of, own_by, puts_one, serves_one, takes_one}

@@ -1,6 +1,6 @@
 pub mod OneRing
 pub mod SentLemmas
-pub mod ToldLemmas
+pub mod OutcomeLemmas
 pub mod PlaceLemmas
 pub mod OwnerLemmas
 pub mod LossLemmas

@@ -14,26 +14,26 @@ use Rattle.mc_account.specs.Lookups.{IsBefore, command_at, outcome_at}
 use Rattle.mc_account.specs.Orders.{Order}
 use Rattle.mc_history.specs.declared.entries.Entry.{Entry}
 use Rattle.mc_history.specs.Histories.{tag_in}
-use Rattle.mc_world.specs.Accounts.{Accounts, IsToldLost, NotAnswered}
+use Rattle.mc_world.specs.Accounts.{Accounts, NotAnswered, WasNeverSentOrLost}
 use Rattle.mc_world.specs.Logs.{Log, before, is_up, loses, number_of, puts, serves, takes}
-use Rattle.mc_world.proofs.FollowLemmas.{nothing_lost, reply_known}
-use Rattle.mc_world.proofs.LogLemmas.{number-before, stays_up}
+use Rattle.mc_world.proofs.Log.FollowLemmas.{nothing_lost, reply_known}
+use Rattle.mc_world.proofs.Log.LogLemmas.{number-before, stays_up}
 use Rattle.mc_pool_laws.specs.Sent.{IsSent}
-use Rattle.mc_pool_laws.specs.Told.{HasEntry, HasOneEntry, IsToldBy, LinkHeld, WasAnswered}
+use Rattle.mc_pool_laws.specs.Outcomes.{HasEntry, HasOneEntry, HasOutcomeBy, LinkHeld, WasAnswered}
 use Rattle.mc_pool_laws.proofs.PlaceLemmas.{before-front, earlier, puts_apart}
 use Rattle.mc_pool_laws.proofs.SentLemmas.{entry_named, sent_command}
-use Rattle.mc_pool_laws.proofs.ToldLemmas.{known_at, told_by}
+use Rattle.mc_pool_laws.proofs.OutcomeLemmas.{known_at, told_by}
 
 -- the histories and the log show an entry of a command, or a loss
-entry_or_loss : (histories : ℕ → List Entry) (log : Log) (tag : Tag) (command : Routed) (outcome : Outcome) → IsToldBy histories log tag command outcome
-    → HasEntry (histories command.server) tag ⊎ IsToldLost command.server tag (histories command.server) log
+entry_or_loss : (histories : ℕ → List Entry) (log : Log) (tag : Tag) (command : Routed) (outcome : Outcome) → HasOutcomeBy histories log tag command outcome
+    → HasEntry (histories command.server) tag ⊎ WasNeverSentOrLost command.server tag (histories command.server) log
 entry_or_loss histories log tag command (Reply reply) told = inl (told.0, told.1, told.2, told.3)
 entry_or_loss histories log tag command Lost told = inr told
 entry_or_loss histories log tag command Awaited told = absurd told
 
 pub executed_or_lost : (losses : Losses) (ring : RingState) (opening : CacheState) (order : Order) (texts outs : ℕ → List ℕ) (histories : ℕ → List Entry) (log : Log)
     → Accounts losses ring opening order texts outs histories log → (tag : Tag) (command : Routed) → IsSent ring texts log tag command → WasAnswered tag log
-    → HasEntry (histories command.server) tag ⊎ IsToldLost command.server tag (histories command.server) log
+    → HasEntry (histories command.server) tag ⊎ WasNeverSentOrLost command.server tag (histories command.server) log
 executed_or_lost losses ring opening order texts outs histories log h tag command sent answered =
     let at = sent_command losses ring opening order texts outs histories log h tag command sent in
     let known = known_at losses ring opening order texts outs histories log h tag command at answered in
@@ -62,7 +62,7 @@ executed_once losses ring opening order texts outs histories log h tag command s
 -- if its link was not lost before its answer, no command of an answered request is logged as lost
 not_lost_before : (losses : Losses) (ring : RingState) (opening : CacheState) (order : Order) (texts outs : ℕ → List ℕ) (histories : ℕ → List Entry) (log : Log)
     → Accounts losses ring opening order texts outs histories log → (place : ℕ) (tag : Tag) → WasAnswered tag log
-    → number_of (loses place) (before (puts tag.session) tag.request log) ≡ 0 → IsToldLost place tag (histories place) log → ⊥
+    → number_of (loses place) (before (puts tag.session) tag.request log) ≡ 0 → WasNeverSentOrLost place tag (histories place) log → ⊥
 not_lost_before losses ring opening order texts outs histories log h place tag answered none (inl down) =
     let front : Log = before (puts tag.session) tag.request log in
     let early = h.after tag.session tag.request answered in
@@ -86,7 +86,7 @@ executed_where_held losses ring opening order texts outs histories log h tag com
 
 -- an entry whose link held has a reply
 replied_by : (histories : ℕ → List Entry) (log : Log) (order : Order) (place k : ℕ) (e : Entry) (command : Routed) (outcome : Outcome) → command.server ≡ place
-    → slice_get (histories command.server) k ≡ Some e → LinkHeld command.server (tag_in e) log → IsToldBy histories log (tag_in e) command outcome
+    → slice_get (histories command.server) k ≡ Some e → LinkHeld command.server (tag_in e) log → HasOutcomeBy histories log (tag_in e) command outcome
     → outcome_at order (tag_in e) ≡ Some outcome → (reply : AReply (List ℕ)) × (outcome_at order (tag_in e) ≡ Some (Reply reply))
 replied_by histories log order place k e command (Reply reply) is at held told became = (reply, became)
 replied_by histories log order place k e command Lost is at held (inl down) became = absurd (down.1 k e at refl)

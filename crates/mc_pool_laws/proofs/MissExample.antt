@@ -15,8 +15,8 @@ use Rattle.mc_request.specs.declared.parts.Atom.{Atom}
 use Rattle.mc_request.specs.declared.parts.Atom.TheVariants as atoms
 use Rattle.mc_request.specs.declared.parts.Request.TheVariants as requests
 use Rattle.mc_request.specs.declared.parts.StoreMode.TheVariants.{Set}
-use Rattle.mc_request.specs.declared.parts.Taken.{Taken}
-use Rattle.mc_request.specs.declared.parts.Taken.TheVariants.{Whole}
+use Rattle.mc_request.specs.declared.parts.Parsed.{Parsed}
+use Rattle.mc_request.specs.declared.parts.Parsed.TheVariants.{Whole}
 use Rattle.mc_request.specs.declared.parts.Update.TheVariants.{Store}
 use Rattle.mc_reply.specs.Spelling.{spelling_of}
 use Rattle.mc_reply.specs.declared.replies.Reply.{Reply as AReply}
@@ -36,7 +36,7 @@ use Rattle.mc_cache.specs.CacheState.{opening_cache}
 use Rattle.mc_account.specs.Lookups.{IsBefore, asked_at, command_at, outcome_at}
 use Rattle.mc_account.specs.Orders.{AreInOrder, IsSized, Order, TakenRequest, is_complete}
 use Rattle.mc_world.specs.declared.events.Event.TheVariants.{ServerTurn}
-use Rattle.mc_world.specs.Accounts.{Account, Accounts, IsToldLost, NotAnswered, WasTaken}
+use Rattle.mc_world.specs.Accounts.{Account, Accounts, NotAnswered, WasNeverSentOrLost, WasTaken}
 use Rattle.mc_world.specs.Logs.{IsRingAfter, Log, before, number_of, puts, serves, takes}
 use Rattle.mc_world.specs.declared.logs.Logged.TheVariants.{Happened}
 use Rattle.mc_history.specs.declared.entries.Entry.{Entry}
@@ -54,10 +54,10 @@ set_key = atoms.Update (Store Set None (codes "k") 0 (pos 0) (codes "v"))
 abbrev pub get_key : Atom (List ℕ)
 get_key = atoms.Get (codes "k") None false
 
-abbrev pub set_asked : Taken
+abbrev pub set_asked : Parsed
 set_asked = Whole (requests.Update (Store Set None (codes "k") 0 (pos 0) (codes "v")) false)
 
-abbrev pub get_asked : Taken
+abbrev pub get_asked : Parsed
 get_asked = Whole (requests.Get (codes "k" ∷ []) None false)
 
 abbrev a_hit : AReply (List ℕ)
@@ -92,7 +92,7 @@ abbrev text_of : ℕ → List ℕ
 text_of client = if 0 == client then a_text else []
 
 -- the requests that were taken: the second command was lost
-abbrev asked_as : ℕ → Taken → Outcome → TakenRequest
+abbrev asked_as : ℕ → Parsed → Outcome → TakenRequest
 asked_as request what outcome = record { session = 0; request = request; what = what; ring = one_server; losses = Missed; outcomes = outcome ∷ [] }
 
 abbrev first : TakenRequest
@@ -158,7 +158,7 @@ asked_three client request x at =
     let own = mine_by (0 == client) request x at in
     (own_by client own.0, in_three first second third request x own.1)
 
-asked_text : (v : Bool) → (untaken : List Taken) × (map (λ (e : TakenRequest). e.what) (mine v) ++ untaken ≡ requests_of (if v then a_text else []))
+asked_text : (v : Bool) → (untaken : List Parsed) × (map (λ (e : TakenRequest). e.what) (mine v) ++ untaken ≡ requests_of (if v then a_text else []))
 asked_text true = ([], sym text_read)
 asked_text false = ([], sym nothing_read)
 
@@ -292,7 +292,7 @@ never_sent tag is k e at same =
     ]
 
 abbrev IsNotSent : ℕ → Tag → Type 0
-IsNotSent place tag = IsToldLost place tag (first_only taken_two place) three_log
+IsNotSent place tag = WasNeverSentOrLost place tag (first_only taken_two place) three_log
 
 lost_by : (tag : Tag) (place : ℕ) (atom : Atom (List ℕ)) → command_at three tag ≡ Some (to_place place atom) → outcome_at three tag ≡ Some outcomes.Lost
     → IsNotSent place tag

@@ -14,8 +14,8 @@ use Rattle.mc_request.specs.declared.faults.Fault.TheVariants.{UnknownCommand}
 use Rattle.mc_request.specs.declared.parts.Atom.{Atom}
 use Rattle.mc_request.specs.declared.parts.Atom.TheVariants as atoms
 use Rattle.mc_request.specs.declared.parts.Request.TheVariants as requests
-use Rattle.mc_request.specs.declared.parts.Taken.{Taken}
-use Rattle.mc_request.specs.declared.parts.Taken.TheVariants.{Faulty, Whole}
+use Rattle.mc_request.specs.declared.parts.Parsed.{Parsed}
+use Rattle.mc_request.specs.declared.parts.Parsed.TheVariants.{Faulty, Whole}
 use Rattle.mc_request.specs.declared.parts.Update.TheVariants.{FlushAll}
 use Rattle.mc_reply.specs.Spelling.{spelling_of}
 use Rattle.mc_reply.specs.declared.replies.Reply.{Reply as AReply}
@@ -36,14 +36,14 @@ use Rattle.mc_account.specs.Orders.{AreInOrder, IsSized, Order, Tagged, TakenReq
 use Rattle.mc_history.specs.declared.entries.Entry.{Entry}
 use Rattle.mc_history.specs.Histories.{IsLegal, tag_in}
 use Rattle.mc_history.specs.Named.{tags_of}
-use Rattle.mc_world.proofs.LifeLemmas.{legal_unrestarted}
+use Rattle.mc_world.proofs.Log.LifeLemmas.{legal_unrestarted}
 use Rattle.mc_world.specs.Accounts.{WasTaken, answers_by}
 use Rattle.mc_world.specs.Logs.{IsRingAfter, Log, before, in_life, loses, moments_of, number_of, puts, restarts, serves, takes, turns_of}
 use Rattle.mc_world.specs.declared.events.Event.TheVariants.{Emit, LinkBack, LinkLost, ProxyTurn, ServerTurn}
 use Rattle.mc_world.specs.declared.logs.Logged.{Logged}
 use Rattle.mc_world.specs.declared.logs.Logged.TheVariants.{Happened}
 use Rattle.mc_pool_laws.specs.Sent.{IsReplayed}
-use Rattle.mc_pool_laws.specs.Told.{IsUnaccounted}
+use Rattle.mc_pool_laws.specs.Outcomes.{IsUnaccounted}
 use Rattle.mc_pool_laws.specs.Without.{AccountsBut, After, Allows, Answered, Asked, Clause, Legal, Lost, Moments, Once, Placed, Put, Replied, Rings, Sized, Turns}
 use Rattle.mc_pool_laws.proofs.SentLemmas.{in_request}
 
@@ -78,7 +78,7 @@ a_cache = opening_cache 1000 10 0
 abbrev pub flush : Atom (List ℕ)
 flush = atoms.Update (FlushAll (pos 0))
 
-abbrev pub flush_asked : Taken
+abbrev pub flush_asked : Parsed
 flush_asked = Whole (requests.Update (FlushAll (pos 0)) false)
 
 abbrev pub flush_text : ℕ → List ℕ
@@ -99,7 +99,7 @@ unfolding requests_of requests_within
 nothing_read = refl
 
 -- the order of one request
-abbrev pub asked_by : RingState → Taken → List Outcome → TakenRequest
+abbrev pub asked_by : RingState → Parsed → List Outcome → TakenRequest
 asked_by ring what told = record { session = 0; request = 0; what = what; ring = ring; losses = Told; outcomes = told }
 
 -- the element of a list of one
@@ -150,9 +150,9 @@ pub first_there : (es : List Entry) (place k : ℕ) (e : Entry) → slice_get (f
 first_there es place k e at = grind (arith, there_by, own_by)
 
 -- the counts of the log of one request, and the request
-pub asked_text : (client : ℕ) (told : List Outcome) (ring : RingState) → (untaken : List Taken) × (taken_of client (asked_by ring flush_asked told ∷ []) ++ untaken ≡ requests_of (flush_text client))
+pub asked_text : (client : ℕ) (told : List Outcome) (ring : RingState) → (untaken : List Parsed) × (taken_of client (asked_by ring flush_asked told ∷ []) ++ untaken ≡ requests_of (flush_text client))
 asked_text client told ring =
-    (elim (0 == client) as (λ v. (untaken : List Taken) × (map (λ (e : TakenRequest). e.what) (if v then asked_by ring flush_asked told ∷ [] else []) ++ untaken ≡ requests_of (codes "flush_all\r\n"))) [
+    (elim (0 == client) as (λ v. (untaken : List Parsed) × (map (λ (e : TakenRequest). e.what) (if v then asked_by ring flush_asked told ∷ [] else []) ++ untaken ≡ requests_of (codes "flush_all\r\n"))) [
       | true ↦ ([], sym text_read)
       | false ↦ (requests_of (codes "flush_all\r\n"), refl)
     ])
@@ -202,10 +202,10 @@ outcome_in_request (Some e) atom q h = (e, refl, h)
 outcome_there : (e : TakenRequest) (tag : Tag) (q : Outcome) → e.session ≡ 0 → outcome_at (e ∷ []) tag ≡ Some q → slice_get e.outcomes tag.atom ≡ Some q
 outcome_there e tag q own became = grind (arith, slice_get, asked_only, outcome_in_request)
 
-no_outcome : (ring : RingState) (what : Taken) (tag : Tag) (q : Outcome) → outcome_at (asked_by ring what [] ∷ []) tag ≡ Some q → ⊥
+no_outcome : (ring : RingState) (what : Parsed) (tag : Tag) (q : Outcome) → outcome_at (asked_by ring what [] ∷ []) tag ≡ Some q → ⊥
 no_outcome ring what tag q became = none_there tag.atom q (outcome_there (asked_by ring what []) tag q refl became)
 
-pub one_outcome : (ring : RingState) (what : Taken) (outcome : Outcome) (tag : Tag) (q : Outcome) → outcome_at (asked_by ring what (outcome ∷ []) ∷ []) tag ≡ Some q → q ≡ outcome
+pub one_outcome : (ring : RingState) (what : Parsed) (outcome : Outcome) (tag : Tag) (q : Outcome) → outcome_at (asked_by ring what (outcome ∷ []) ∷ []) tag ≡ Some q → q ≡ outcome
 one_outcome ring what outcome tag q became = (one_here outcome tag.atom q (outcome_there (asked_by ring what (outcome ∷ [])) tag q refl became)).1
 
 abbrev pub is_reply : Outcome → Bool
@@ -218,11 +218,11 @@ is_lost (outcomes.Reply reply) = false
 is_lost outcomes.Lost = true
 is_lost outcomes.Awaited = false
 
-no_reply : (ring : RingState) (what : Taken) (outcome : Outcome) → is_reply outcome ≡ false → (tag : Tag) (reply : AReply (List ℕ))
+no_reply : (ring : RingState) (what : Parsed) (outcome : Outcome) → is_reply outcome ≡ false → (tag : Tag) (reply : AReply (List ℕ))
     → outcome_at (asked_by ring what (outcome ∷ []) ∷ []) tag ≡ Some (outcomes.Reply reply) → ⊥
 no_reply ring what outcome other tag reply became = true≢false (ap is_reply (one_outcome ring what outcome tag (outcomes.Reply reply) became) ∙ other)
 
-pub no_loss : (ring : RingState) (what : Taken) (outcome : Outcome) → is_lost outcome ≡ false → (tag : Tag)
+pub no_loss : (ring : RingState) (what : Parsed) (outcome : Outcome) → is_lost outcome ≡ false → (tag : Tag)
     → outcome_at (asked_by ring what (outcome ∷ []) ∷ []) tag ≡ Some outcomes.Lost → ⊥
 no_loss ring what outcome other tag became = true≢false (ap is_lost (one_outcome ring what outcome tag outcomes.Lost became) ∙ other)
 
@@ -233,8 +233,8 @@ answered_log = takes_one ∷ puts_one ∷ []
 abbrev pub outs_of : Losses → Order → Log → ℕ → List ℕ
 outs_of losses order log client = answers_by losses (take (number_of (puts client) log) (entries_of client order))
 
-answered_but : (one : Clause) (losses : Losses) (ring by : RingState) (what : Taken) (told : List Outcome) (texts : ℕ → List ℕ)
-    → (one ≢ Asked → (client : ℕ) → (untaken : List Taken) × (taken_of client (asked_by by what told ∷ []) ++ untaken ≡ requests_of (texts client)))
+answered_but : (one : Clause) (losses : Losses) (ring by : RingState) (what : Parsed) (told : List Outcome) (texts : ℕ → List ℕ)
+    → (one ≢ Asked → (client : ℕ) → (untaken : List Parsed) × (taken_of client (asked_by by what told ∷ []) ++ untaken ≡ requests_of (texts client)))
     → (one ≢ Rings → by ≡ ring)
     → (one ≢ Sized → IsSized (asked_by by what told))
     → (one ≢ Answered → is_complete (asked_by by what told) ≡ true)
@@ -251,7 +251,7 @@ untold = record {
   sent = record {
     what = flush_asked;
     ring = one_server;
-    taken = record { turn = omega arith; sent = ap (λ (ts : List Taken). slice_get ts 0) text_read; then = refl };
+    taken = record { turn = omega arith; sent = ap (λ (ts : List Parsed). slice_get ts 0) text_read; then = refl };
     routed = refl;
   };
   answered = omega arith;
@@ -268,7 +268,7 @@ untold = record {
 pub without_asked : Allows Asked (λ ring opening texts outs histories log. length (requests_of (texts 0)) < number_of (takes 0) log)
 without_asked losses =
     let e = asked_by one_server (Faulty UnknownCommand) [] in
-    let none : length (requests_of []) ≡ 0 = ap (λ (ts : List Taken). length ts) nothing_read in (
+    let none : length (requests_of []) ≡ 0 = ap (λ (ts : List Parsed). length ts) nothing_read in (
       one_server,
       a_cache,
       no_text,
@@ -394,7 +394,7 @@ nothing_but one losses outs log turns put after answered moments = grind (arith,
 -- a turn takes nothing
 pub without_turns : Allows Turns (λ ring opening texts outs histories log. length (requests_of (texts 0)) < number_of (takes 0) log)
 without_turns losses =
-    let none : length (requests_of []) ≡ 0 = ap (λ (ts : List Taken). length ts) nothing_read in (
+    let none : length (requests_of []) ≡ 0 = ap (λ (ts : List Parsed). length ts) nothing_read in (
       one_server,
       a_cache,
       no_text,

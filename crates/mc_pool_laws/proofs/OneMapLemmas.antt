@@ -21,9 +21,9 @@ use Rattle.mc_world.specs.Accounts.{Accounts}
 use Rattle.mc_world.specs.Logs.{Log, number_of, restarts, serves}
 use Rattle.mc_world.specs.Steps.{GivesAccount}
 use Rattle.mc_world.specs.Worlds.{WorldState, history_of, put_out_of, text_of}
-use Rattle.mc_world.proofs.LifeLemmas.{whole_life}
-use Rattle.mc_world.proofs.LogLemmas.{moments-count}
-use Rattle.mc_pool_laws.specs.Executions.{LookUp, commands_of, executed, sent_at, told_by, told_in, turns_of, with_command}
+use Rattle.mc_world.proofs.Log.LifeLemmas.{whole_life}
+use Rattle.mc_world.proofs.Log.LogLemmas.{moments-count}
+use Rattle.mc_pool_laws.specs.Executions.{LookUp, command_in_entry, commands_of, executed, reply_texts, sent_at, turns_of, with_command}
 use Rattle.mc_pool_laws.specs.OneMaps.{ActsAsOneMap, ArePlainlyOfOneMap}
 use Rattle.mc_pool_laws.proofs.MergeLemmas.{AreOwned, HaveTurns, merged-own, merged-owned, turns-count}
 use Rattle.mc_pool_laws.proofs.OneMapOwnerLemmas.{command_is_sent, command_own}
@@ -34,9 +34,9 @@ Finds look order = (tag : Tag) (command : Routed) → command_at order tag ≡ S
 
 -- the commands of a history whose first entry is of a command of the order
 commands-first : (look : LookUp) (order : Order) → Finds look order → (e : Entry) (es : List Entry) (command : Routed) → command_at order (tag_in e) ≡ Some command
-    → commands_of look (e ∷ es) ≡ told_in e command ∷ commands_of look es
+    → commands_of look (e ∷ es) ≡ command_in_entry e command ∷ commands_of look es
 commands-first look order finds e es command at =
-    ap (λ (o : Option Routed). with_command (option_map (told_in e) o) (commands_of look es)) (finds (tag_in e) command at)
+    ap (λ (o : Option Routed). with_command (option_map (command_in_entry e) o) (commands_of look es)) (finds (tag_in e) command at)
 
 -- a legal history has a command for each entry
 commands-many : (look : LookUp) (order : Order) → Finds look order → (place : ℕ) (s : CacheState) (es : List Entry) → IsLegal order place s es
@@ -48,12 +48,12 @@ commands-many look order finds place s (e ∷ es) legal =
 
 -- its replies are those of the cache, encoded
 replies-told : (look : LookUp) (order : Order) → Finds look order → (place : ℕ) (s : CacheState) (es : List Entry) → IsLegal order place s es
-    → map (λ (e : Entry). e.reply) es ≡ told_by (commands_of look es) (replies s (commands_of look es))
+    → map (λ (e : Entry). e.reply) es ≡ reply_texts (commands_of look es) (replies s (commands_of look es))
 replies-told look order finds place s [] legal = refl
 replies-told look order finds place s (e ∷ es) legal =
     let after : CacheState = (step_of s legal.0 e.moment e.refused).0 in
     ap₂ (λ (r : List ℕ) (rs : List (List ℕ)). r ∷ rs) legal.2.reply (replies-told look order finds place after es legal.3)
-    ∙ sym (ap (λ (cs : List Command). told_by cs (replies s cs)) (commands-first look order finds e es (to_place place legal.0) legal.1))
+    ∙ sym (ap (λ (cs : List Command). reply_texts cs (replies s cs)) (commands-first look order finds e es (to_place place legal.0) legal.1))
 
 -- its commands are on keys of this server, if those of the order are
 history-owned : (owner : List ℕ → ℕ) (look : LookUp) (order : Order) → Finds look order

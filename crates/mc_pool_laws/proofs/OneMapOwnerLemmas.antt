@@ -3,7 +3,7 @@ use Rattle.std.proofs.Common.{◌≡◌, ◌∙◌, ℕ, List, [], ◌∷◌, Op
 use Rattle.std.proofs.lemmas.Option.{none-some}
 use Rattle.mc_request.specs.Requests.{requests_of}
 use Rattle.mc_request.specs.declared.parts.Atom.{Atom}
-use Rattle.mc_request.specs.declared.parts.Taken.{Taken}
+use Rattle.mc_request.specs.declared.parts.Parsed.{Parsed}
 use Rattle.mc_ring.specs.Rings.{RingState}
 use Rattle.mc_route.specs.declared.losses.Losses.{Losses}
 use Rattle.mc_route.specs.Routes.{owner_in, route_of_taken, to_place}
@@ -17,8 +17,8 @@ use Rattle.mc_history.specs.declared.entries.Entry.{Entry}
 use Rattle.mc_world.specs.Accounts.{Accounts}
 use Rattle.mc_world.specs.declared.logs.Logged.TheVariants.{Happened, Joined, Restarted}
 use Rattle.mc_world.specs.Logs.{IsRingAfter, Log, number_of}
-use Rattle.mc_world.proofs.LogEntryLemmas.{got_map, got_there}
-use Rattle.mc_world.proofs.LogLemmas.{number-before}
+use Rattle.mc_world.proofs.Log.EntryLemmas.{got_map, got_there}
+use Rattle.mc_world.proofs.Log.LogLemmas.{number-before}
 use Rattle.mc_pool_laws.proofs.OwnerLemmas.{taken-own}
 use Rattle.mc_pool_laws.specs.Executions.{command_sent, sent_at}
 use Rattle.mc_pool_laws.specs.OneMaps.{joins}
@@ -59,9 +59,9 @@ command_is_sent losses ring opening order texts outs histories log h none tag co
     let found = in-request (asked_at order tag.session tag.request) tag.atom command at in
     let asked = h.asked tag.session in
     let sent : slice_get (requests_of (texts tag.session)) tag.request ≡ Some found.0.what =
-    ap (λ (ts : List Taken). slice_get ts tag.request) (sym asked.1)
+    ap (λ (ts : List Parsed). slice_get ts tag.request) (sym asked.1)
     ∙ got_there (taken_of tag.session order) asked.0 tag.request found.0.what (got_map (λ (x : TakenRequest). x.what) (entries_of tag.session order) tag.request found.0 found.1) in
-    ap (λ (o : Option Taken). command_sent ring o tag.atom) sent
+    ap (λ (o : Option Parsed). command_sent ring o tag.atom) sent
     ∙ ap (λ (r : RingState). slice_get (route_of_taken r found.0.what) tag.atom)
     (sym (ring_is losses ring opening order texts outs histories log h none tag.session tag.request found.0 found.1))
     ∙ found.2

@@ -9,7 +9,7 @@ use Rattle.mc_text.specs.Words.{words}
 use Rattle.mc_request.specs.Names.{name_of}
 use Rattle.mc_request.specs.Requests.{next_request, requests_of, requests_within}
 use Rattle.mc_request.specs.declared.parts.Atom.{Atom}
-use Rattle.mc_request.specs.declared.parts.Taken.{Taken}
+use Rattle.mc_request.specs.declared.parts.Parsed.{Parsed}
 use Rattle.mc_reply.specs.Spelling.{spelling_of}
 use Rattle.mc_reply.specs.declared.replies.Reply.{Reply as AReply}
 use Rattle.mc_reply.specs.declared.replies.Reply.TheVariants.{Flushed}
@@ -27,7 +27,7 @@ use Rattle.mc_history.specs.declared.entries.Entry.{Entry}
 use Rattle.mc_history.specs.Histories.{HasReply, IsLegal, tag_in}
 use Rattle.mc_world.specs.Accounts.{NotAnswered, WasTaken}
 use Rattle.mc_world.specs.Logs.{IsRingAfter, Log, before, in_life, loses, number_of, puts, serves, takes}
-use Rattle.mc_pool_laws.specs.Told.{LinkHeld, WasAnswered}
+use Rattle.mc_pool_laws.specs.Outcomes.{LinkHeld, WasAnswered}
 use Rattle.mc_pool_laws.specs.Without.{AccountsBut, Allows, Ordered}
 use Rattle.mc_pool_laws.proofs.SentLemmas.{in_request}
 use Rattle.mc_pool_laws.proofs.NeedLemmas.{a_cache, asked_by, first_only, first_there, flush, flush_asked, flushed, follows_lost, is_lost, lives_of_first, loses_one, none_there, one_here, one_server, outcome_in_request, outs_of, own_by, puts_one, returns_one, serves_one, takes_one}
@@ -78,7 +78,7 @@ asked_two : (client request : ℕ) (x : TakenRequest) → asked_at two_asked cli
     → (0 ≡ client) × (((request ≡ 0) × (x ≡ first_asked)) ⊎ ((request ≡ 1) × (x ≡ second_asked)))
 asked_two client request x at = grind (arith, own_by, two_here, mine_by)
 
-text_by : (v : Bool) → (untaken : List Taken) × (map (λ (e : TakenRequest). e.what) (mine v) ++ untaken ≡ requests_of (codes "flush_all\r\nflush_all\r\n"))
+text_by : (v : Bool) → (untaken : List Parsed) × (map (λ (e : TakenRequest). e.what) (mine v) ++ untaken ≡ requests_of (codes "flush_all\r\nflush_all\r\n"))
 text_by true = ([], sym two_read)
 text_by false = (requests_of (codes "flush_all\r\nflush_all\r\n"), refl)
 

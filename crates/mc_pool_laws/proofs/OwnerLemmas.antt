@@ -4,8 +4,8 @@ use Rattle.std.proofs.lemmas.Option.{none-some, same_Some}
 use Rattle.mc_request.specs.declared.parts.Atom.{Atom}
 use Rattle.mc_request.specs.declared.parts.Request.{Request}
 use Rattle.mc_request.specs.declared.parts.Request.TheVariants as requests
-use Rattle.mc_request.specs.declared.parts.Taken.{Taken}
-use Rattle.mc_request.specs.declared.parts.Taken.TheVariants.{Whole, Faulty}
+use Rattle.mc_request.specs.declared.parts.Parsed.{Parsed}
+use Rattle.mc_request.specs.declared.parts.Parsed.TheVariants.{Whole, Faulty}
 use Rattle.mc_request.specs.declared.parts.Update.TheVariants.{Store, Touch, Delete, Count, FlushAll}
 use Rattle.mc_ring.specs.Rings.{RingState}
 use Rattle.mc_route.specs.Routes.{owner_in, route_of, route_of_gets, route_of_taken, to_each, to_owner}
@@ -52,6 +52,6 @@ route-own ring requests.MetaNoop = each-nil (IsToOwner ring)
 route-own ring requests.Version = each-nil (IsToOwner ring)
 route-own ring requests.Quit = each-nil (IsToOwner ring)
 
-pub taken-own : (ring : RingState) (what : Taken) → Each (IsToOwner ring) (route_of_taken ring what)
+pub taken-own : (ring : RingState) (what : Parsed) → Each (IsToOwner ring) (route_of_taken ring what)
 taken-own ring (Whole request) = route-own ring request
 taken-own ring (Faulty fault) = each-nil (IsToOwner ring)

@@ -5,7 +5,7 @@ use Rattle.mc_world.specs.declared.events.Event.TheVariants.{Emit}
 use Rattle.mc_world.specs.Logs.{Log, before, loses, number_of, puts}
 use Rattle.mc_world.specs.declared.logs.Logged.{Logged}
 use Rattle.mc_world.specs.declared.logs.Logged.TheVariants.{Happened}
-use Rattle.mc_world.proofs.LogLemmas.{before-more, before-other}
+use Rattle.mc_world.proofs.Log.LogLemmas.{before-more, before-other}
 
 -- the log before an event is a front of the log
 pub front_of : (kind : Logged → Bool) (k : ℕ) (log : Log) → (rest : Log) × (log ≡ before kind k log ++ rest)

@@ -2,7 +2,7 @@
 use Rattle.std.proofs.Common.{◌≡◌, ◌∙◌, ℕ, suc, ◌+◌, ◌==◌, Bool, true, if◌then◌else◌, List, [], ◌∷◌, ◌++◌, length, map, Some, slice_get, refl, sym, ap, ap₂, subst, append_assoc, arith}
 use Rattle.std.proofs.lemmas.List.{map-append}
 use Rattle.std.proofs.lemmas.Option.{same_Some}
-use Rattle.mc_request.specs.declared.parts.Taken.{Taken}
+use Rattle.mc_request.specs.declared.parts.Parsed.{Parsed}
 use Rattle.mc_ring.specs.Rings.{RingState}
 use Rattle.mc_route.specs.declared.losses.Losses.{Losses}
 use Rattle.mc_route.specs.Routes.{route_of_taken}
@@ -17,8 +17,8 @@ use Rattle.mc_world.specs.Accounts.{Accounts}
 use Rattle.mc_world.specs.Logs.{IsRingAfter, Log, before, loses, number_of, takes, turn_of, turns_of}
 use Rattle.mc_world.specs.declared.logs.Logged.{Logged}
 use Rattle.mc_world.specs.declared.logs.Logged.TheVariants.{Happened}
-use Rattle.mc_world.proofs.LogLemmas.{before-here}
-use Rattle.mc_world.proofs.LogOrderLemmas.{turns-none, turns-push, turns-taken}
+use Rattle.mc_world.proofs.Log.LogLemmas.{before-here}
+use Rattle.mc_world.proofs.Log.OrderLemmas.{turns-none, turns-push, turns-taken}
 use Rattle.mc_history.specs.declared.entries.Entry.{Entry}
 use Rattle.mc_pool_laws.specs.Followed.{AreSentBy, FollowsProxy, IsSentBy, TakesNext}
 use Rattle.mc_pool_laws.proofs.OneRing.{ring_one}
@@ -126,7 +126,7 @@ next_one : (ring : RingState) (texts : ℕ → List ℕ) (place : ℕ) (done : L
 next_one ring texts place done client a b f g =
     let what : f.what ≡ g.what = same_Some f.what g.what (sym f.sent ∙ g.sent) in
     let rings : f.ring ≡ g.ring = ring_one ring f.ring g.ring done f.then g.then in
-    f.routed ∙ ap₂ (λ (r : RingState) (w : Taken). commands_from place client (number_of (takes client) done) 0 (route_of_taken r w)) rings what ∙ sym g.routed
+    f.routed ∙ ap₂ (λ (r : RingState) (w : Parsed). commands_from place client (number_of (takes client) done) 0 (route_of_taken r w)) rings what ∙ sym g.routed
 
 by_one : (ring : RingState) (texts : ℕ → List ℕ) (place : ℕ) (done : Log) (x : Logged) (a b : List Tagged) → IsSentBy ring texts place done x a → IsSentBy ring texts place done x b → a ≡ b
 by_one ring texts place done (Happened (ProxyTurn client)) a b f g = next_one ring texts place done client a b f g

@@ -11,7 +11,7 @@ use Rattle.mc_text.specs.Words.{words}
 use Rattle.mc_request.specs.Names.{name_of}
 use Rattle.mc_request.specs.Requests.{next_request, requests_of, requests_within}
 use Rattle.mc_request.specs.declared.parts.Atom.{Atom}
-use Rattle.mc_request.specs.declared.parts.Taken.{Taken}
+use Rattle.mc_request.specs.declared.parts.Parsed.{Parsed}
 use Rattle.mc_reply.specs.Spelling.{spelling_of}
 use Rattle.mc_reply.specs.declared.replies.Reply.{Reply as AReply}
 use Rattle.mc_reply.specs.declared.replies.Reply.TheVariants.{Miss, Stored}
@@ -28,10 +28,10 @@ use Rattle.mc_cache.specs.Step.{step_of}
 use Rattle.mc_account.specs.Lookups.{IsBefore, asked_at, command_at, outcome_at}
 use Rattle.mc_account.specs.Orders.{AreInOrder, IsSized, Order, TakenRequest, is_complete}
 use Rattle.mc_world.specs.declared.events.Event.TheVariants.{ServerTurn}
-use Rattle.mc_world.specs.Accounts.{Account, Accounts, IsToldLost, NotAnswered, WasTaken}
+use Rattle.mc_world.specs.Accounts.{Account, Accounts, NotAnswered, WasNeverSentOrLost, WasTaken}
 use Rattle.mc_world.specs.Logs.{IsRingAfter, Log, before, in_life, number_of, puts, serves, taken_before, takes}
 use Rattle.mc_world.specs.declared.logs.Logged.TheVariants.{Happened, Restarted}
-use Rattle.mc_world.proofs.LifeLemmas.{taken_past}
+use Rattle.mc_world.proofs.Log.LifeLemmas.{taken_past}
 use Rattle.mc_history.specs.declared.entries.Entry.{Entry}
 use Rattle.mc_history.specs.Histories.{HasReply, IsLegal, tag_in}
 use Rattle.mc_pool_laws.specs.Sent.{IsReplayed}
@@ -48,7 +48,7 @@ unfolding words line_end first_line name_of next_request requests_within request
 text_read = refl
 
 -- the requests that were taken, and their replies
-abbrev asked_as : ℕ → Taken → AReply (List ℕ) → TakenRequest
+abbrev asked_as : ℕ → Parsed → AReply (List ℕ) → TakenRequest
 asked_as request what reply =
     record { session = 0; request = request; what = what; ring = one_server; losses = Told; outcomes = outcomes.Reply reply ∷ [] }
 
@@ -92,7 +92,7 @@ asked_two client request x at =
     let own = mine_by (0 == client) request x at in
     (own_by client own.0, in_two first second request x own.1)
 
-asked_text : (v : Bool) → (untaken : List Taken) × (map (λ (e : TakenRequest). e.what) (mine v) ++ untaken
+asked_text : (v : Bool) → (untaken : List Parsed) × (map (λ (e : TakenRequest). e.what) (mine v) ++ untaken
     ≡ requests_of (if v then codes "set k 0 0 1\r\nv\r\nget k\r\n" else []))
 asked_text true = ([], sym text_read)
 asked_text false = ([], sym nothing_read)
@@ -172,7 +172,7 @@ replied_by tag place atom reply at became =
     ]
 
 lost_by : (tag : Tag) (place : ℕ) (atom : Atom (List ℕ)) → command_at restart_order tag ≡ Some (to_place place atom)
-    → outcome_at restart_order tag ≡ Some outcomes.Lost → IsToldLost place tag (first_only restart_history place) restart_log
+    → outcome_at restart_order tag ≡ Some outcomes.Lost → WasNeverSentOrLost place tag (first_only restart_history place) restart_log
 lost_by tag place atom at became =
     let k = known tag place atom outcomes.Lost at became in
     elim k.which [

@@ -3,7 +3,7 @@ use Rattle.std.proofs.Common.{◌≡◌, ◌∙◌, ℕ, zero, suc, ◌-◌, ◌
 use Rattle.std.proofs.lemmas.List.{length-append, length-map}
 use Rattle.std.proofs.lemmas.Option.{none-some, same_Some}
 use Rattle.mc_request.specs.declared.parts.Atom.{Atom}
-use Rattle.mc_request.specs.declared.parts.Taken.{Taken}
+use Rattle.mc_request.specs.declared.parts.Parsed.{Parsed}
 use Rattle.mc_request.specs.Requests.{requests_of}
 use Rattle.mc_reply.specs.Spelling.{spelling_of}
 use Rattle.mc_ring.specs.Rings.{RingState}
@@ -19,10 +19,10 @@ use Rattle.mc_history.specs.declared.entries.Entry.{Entry}
 use Rattle.mc_history.specs.Histories.{IsLegal, tag_in}
 use Rattle.mc_world.specs.Accounts.{Accounts}
 use Rattle.mc_world.specs.Logs.{Log, in_life, number_of, puts, serves, taken_before, takes}
-use Rattle.mc_world.proofs.LogEntryLemmas.{got_inside, got_map, got_some, got_there}
-use Rattle.mc_world.proofs.LifeLemmas.{got_in_life, life_of}
-use Rattle.mc_world.proofs.LogLemmas.{moments-count, number-before}
-use Rattle.mc_world.proofs.LogOrderLemmas.{turns-taken}
+use Rattle.mc_world.proofs.Log.EntryLemmas.{got_inside, got_map, got_some, got_there}
+use Rattle.mc_world.proofs.Log.LifeLemmas.{got_in_life, life_of}
+use Rattle.mc_world.proofs.Log.LogLemmas.{moments-count, number-before}
+use Rattle.mc_world.proofs.Log.OrderLemmas.{turns-taken}
 use Rattle.mc_pool_laws.specs.Sent.{IsReplayed, IsSent, IsTaken}
 use Rattle.mc_pool_laws.proofs.OneRing.{ring_one}
 
@@ -40,7 +40,7 @@ sent_in_text : (losses : Losses) (ring : RingState) (opening : CacheState) (orde
     → slice_get (requests_of (texts client)) request ≡ Some e.what
 sent_in_text losses ring opening order texts outs histories log h client request e at =
     let asked = h.asked client in
-    ap (λ (ts : List Taken). slice_get ts request) (sym asked.1)
+    ap (λ (ts : List Parsed). slice_get ts request) (sym asked.1)
     ∙ got_there (taken_of client order) asked.0 request e.what (got_map (λ (x : TakenRequest). x.what) (entries_of client order) request e at)
 
 pub entry_taken : (losses : Losses) (ring : RingState) (opening : CacheState) (order : Order) (texts outs : ℕ → List ℕ) (histories : ℕ → List Entry) (log : Log)
@@ -83,7 +83,7 @@ taken_entry losses ring opening order texts outs histories log h client request 
 
 pub request_taken : (losses : Losses) (ring : RingState) (opening : CacheState) (order : Order) (texts outs : ℕ → List ℕ) (histories : ℕ → List Entry) (log : Log)
     → Accounts losses ring opening order texts outs histories log → (client request : ℕ) → request < number_of (takes client) log
-    → (what : Taken) × (now : RingState) × IsTaken ring texts log client request what now
+    → (what : Parsed) × (now : RingState) × IsTaken ring texts log client request what now
 request_taken losses ring opening order texts outs histories log h client request turn =
     let e = taken_entry losses ring opening order texts outs histories log h client request turn in
     (e.0.what, e.0.ring, entry_taken losses ring opening order texts outs histories log h client request e.0 e.1)

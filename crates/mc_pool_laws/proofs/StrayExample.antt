@@ -6,7 +6,7 @@ use Rattle.std.proofs.lemmas.Bool.{false≢true, true≢false}
 use Rattle.std.proofs.lemmas.Bool.Decides.{eqb_tells}
 use Rattle.std.proofs.lemmas.List.Elements.{All-cons, All-nil}
 use Rattle.std.proofs.lemmas.Option.{same_Some}
-use Rattle.mc_request.specs.declared.parts.Taken.{Taken}
+use Rattle.mc_request.specs.declared.parts.Parsed.{Parsed}
 use Rattle.mc_request.specs.Requests.{requests_of}
 use Rattle.mc_reply.specs.Spelling.{spelling_of}
 use Rattle.mc_reply.specs.declared.replies.Reply.TheVariants.{Flushed}
@@ -25,7 +25,7 @@ use Rattle.mc_world.specs.Accounts.{WasTaken}
 use Rattle.mc_world.specs.Logs.{IsRingAfter, Log, before, loses, number_of, serves, takes}
 use Rattle.mc_world.specs.declared.logs.Logged.{Logged}
 use Rattle.mc_world.specs.declared.logs.Logged.TheVariants.{Happened}
-use Rattle.mc_world.proofs.LogLemmas.{IsEvent}
+use Rattle.mc_world.proofs.Log.LogLemmas.{IsEvent}
 use Rattle.mc_history.specs.declared.entries.Entry.{Entry}
 use Rattle.mc_history.specs.Histories.{IsLegal, tag_in}
 use Rattle.mc_history.specs.Named.{tags_of}
@@ -75,7 +75,7 @@ awaits x y tag q hx hy became =
     let is = flush_each x y tag.session tag.request found.0 hx hy found.1 in
     (one_here outcomes.Awaited tag.atom q (ap (λ (os : List Outcome). slice_get os tag.atom) (sym is.2) ∙ found.2)).1
 
-text_each : (v w : Bool) (a m b n : ℕ) → (untaken : List Taken) × (map (λ (e : TakenRequest). e.what)
+text_each : (v w : Bool) (a m b n : ℕ) → (untaken : List Parsed) × (map (λ (e : TakenRequest). e.what)
     (if v then flush_by a m ∷ (if w then flush_by b n ∷ [] else []) else (if w then flush_by b n ∷ [] else [])) ++ untaken ≡ requests_of (codes "flush_all\r\nflush_all\r\n"))
 text_each true true a m b n = ([], sym two_read)
 text_each true false a m b n = (flush_asked ∷ [], sym two_read)
@@ -162,8 +162,8 @@ stray_but one losses a m b n p q r s second turns numbered followed legal apart 
 first_sent : (es : Log) (sent : List Tagged) → AreSentBy one_server two_text 0 [] (takes_one ∷ es) sent → slice_get (tags_of sent) 0 ≡ Some (tag_of 0 0 0)
 first_sent es sent h =
     let takes = h.2 in
-    let asked : takes.what ≡ flush_asked = same_Some takes.what flush_asked (sym takes.sent ∙ ap (λ (ts : List Taken). slice_get ts 0) two_read) in
-    let first : h.0 ≡ (flush, tag_of 0 0 0) ∷ [] = takes.routed ∙ ap₂ (λ (ring : RingState) (what : Taken). commands_from 0 0 0 0 (route_of_taken ring what)) takes.then asked in
+    let asked : takes.what ≡ flush_asked = same_Some takes.what flush_asked (sym takes.sent ∙ ap (λ (ts : List Parsed). slice_get ts 0) two_read) in
+    let first : h.0 ≡ (flush, tag_of 0 0 0) ∷ [] = takes.routed ∙ ap₂ (λ (ring : RingState) (what : Parsed). commands_from 0 0 0 0 (route_of_taken ring what)) takes.then asked in
     ap (λ (cs : List Tagged). slice_get (tags_of cs) 0) (h.4 ∙ ap (λ (cs : List Tagged). cs ++ h.1) first)
 
 strays : (es : Log) (d : Entry) (more : List Entry) → (tag_in d ≡ tag_of 0 0 0 → ⊥) → FollowsProxy one_server two_text (takes_one ∷ es) 0 (d ∷ more) → ⊥

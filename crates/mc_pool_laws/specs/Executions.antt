@@ -2,7 +2,7 @@
 -- project's own.
 use Rattle.std.specs.Prelude.{ℕ, ◌==◌, List, [], ◌∷◌, ◌++◌, drop, if◌then◌else◌, Option, Some, None, slice_get}
 use Rattle.std.specs.Option.{option_map}
-use Rattle.mc_request.specs.declared.parts.Taken.{Taken}
+use Rattle.mc_request.specs.declared.parts.Parsed.{Parsed}
 use Rattle.mc_request.specs.Requests.{requests_of}
 use Rattle.mc_reply.specs.declared.replies.Reply.{Reply}
 use Rattle.mc_reply.specs.Spelling.{spelling_of}
@@ -24,7 +24,7 @@ abbrev pub LookUp : Type 0
 LookUp = Tag → Option Routed
 
 -- the command of a number of a request that a client sent, by the ring
-abbrev pub command_sent : RingState → Option Taken → ℕ → Option Routed
+abbrev pub command_sent : RingState → Option Parsed → ℕ → Option Routed
 command_sent ring None atom = None
 command_sent ring (Some what) atom = slice_get (route_of_taken ring what) atom
 
@@ -33,12 +33,12 @@ abbrev pub sent_at : RingState → (ℕ → List ℕ) → LookUp
 sent_at ring texts tag = command_sent ring (slice_get (requests_of (texts tag.session)) tag.request) tag.atom
 
 -- a command as an entry records it: its moment, and whether memory was refused to it
-abbrev pub told_in : Entry → Routed → Command
-told_in e command = record { atom = command.atom; moment = e.moment; refused = e.refused }
+abbrev pub command_in_entry : Entry → Routed → Command
+command_in_entry e command = record { atom = command.atom; moment = e.moment; refused = e.refused }
 
 -- the command of an entry: none if none is found by its tag
 abbrev pub command_of : LookUp → Entry → Option Command
-command_of look e = option_map (told_in e) (look (tag_in e))
+command_of look e = option_map (command_in_entry e) (look (tag_in e))
 
 -- the list with one more command, if there is one
 abbrev pub with_command : Option Command → List Command → List Command
@@ -78,7 +78,7 @@ abbrev pub executed : LookUp → (ℕ → List Entry) → Log → List Executed
 executed look histories log = merged (λ place. commands_of look (histories place)) (turns_of log)
 
 -- the encodings of the replies to commands, one for each
-abbrev pub told_by : List Command → List (Reply (List ℕ)) → List (List ℕ)
-told_by [] replies = []
-told_by (command ∷ commands) [] = []
-told_by (command ∷ commands) (reply ∷ replies) = spelling_of command.atom reply ∷ told_by commands replies
+abbrev pub reply_texts : List Command → List (Reply (List ℕ)) → List (List ℕ)
+reply_texts [] replies = []
+reply_texts (command ∷ commands) [] = []
+reply_texts (command ∷ commands) (reply ∷ replies) = spelling_of command.atom reply ∷ reply_texts commands replies

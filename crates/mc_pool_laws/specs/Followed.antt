@@ -1,7 +1,7 @@
 -- The commands that a proxy sent to a server, in the order in which it took the requests, as the clients' texts and the log show them.
 -- All of it is this project's own.
 use Rattle.std.specs.Prelude.{ℕ, ◌≡◌, List, [], ◌∷◌, ◌++◌, map, Some, slice_get}
-use Rattle.mc_request.specs.declared.parts.Taken.{Taken}
+use Rattle.mc_request.specs.declared.parts.Parsed.{Parsed}
 use Rattle.mc_request.specs.Requests.{requests_of}
 use Rattle.mc_ring.specs.Rings.{RingState}
 use Rattle.mc_route.specs.Routes.{route_of_taken}
@@ -18,7 +18,7 @@ use Rattle.mc_history.specs.Named.{tags_of}
 -- a turn of a client, after what was done, takes its next request, by the ring of that moment: these of its commands go to the server of
 -- a place
 pub record TakesNext (opening : RingState) (texts : ℕ → List ℕ) (place : ℕ) (done : Log) (client : ℕ) (commands : List Tagged) : Type 0 where
-  pub what : Taken
+  pub what : Parsed
   pub ring : RingState
   pub sent : slice_get (requests_of (texts client)) (number_of (takes client) done) ≡ Some what
   pub then : IsRingAfter opening done ring

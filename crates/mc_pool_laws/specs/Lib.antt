@@ -1,6 +1,6 @@
 pub mod Sent
 pub mod Followed
-pub mod Told
+pub mod Outcomes
 pub mod Choices
 pub mod Wanted
 pub mod Drained

@@ -3,8 +3,8 @@ use Rattle.std.specs.Prelude.{ℕ, ◌==◌, pos, false, if◌then◌else◌, No
 use Rattle.mc_request.specs.declared.parts.Atom.{Atom}
 use Rattle.mc_request.specs.declared.parts.Request.TheVariants as requests
 use Rattle.mc_request.specs.declared.parts.StoreMode.TheVariants.{Set}
-use Rattle.mc_request.specs.declared.parts.Taken.{Taken}
-use Rattle.mc_request.specs.declared.parts.Taken.TheVariants.{Whole}
+use Rattle.mc_request.specs.declared.parts.Parsed.{Parsed}
+use Rattle.mc_request.specs.declared.parts.Parsed.TheVariants.{Whole}
 use Rattle.mc_request.specs.declared.parts.Update.TheVariants.{FlushAll, Store}
 use Rattle.mc_ring.specs.Rings.{RingState}
 use Rattle.mc_route.specs.declared.losses.Losses.TheVariants.{Told}
@@ -21,7 +21,7 @@ abbrev pub two_in_ring : RingState
 two_in_ring = record { servers = codes "a:1" ∷ codes "b:1" ∷ []; points = record { point = 0; place = 0 } ∷ [] }
 
 -- a client's first request, as it was taken
-abbrev pub first_asked : ℕ → Taken → TakenRequest
+abbrev pub first_asked : ℕ → Parsed → TakenRequest
 first_asked client what = record { session = client; request = 0; what = what; ring = two_in_ring; losses = Told; outcomes = [] }
 
 -- client 7 sets a key, and client 8 flushes both servers

@@ -13,7 +13,7 @@ use Rattle.mc_world.specs.Accounts.{Accounts}
 use Rattle.mc_world.specs.Logs.{Log, number_of, restarts}
 use Rattle.mc_world.specs.Steps.{GivesAccount}
 use Rattle.mc_world.specs.Worlds.{WorldState, cache_of, history_of, put_out_of, text_of}
-use Rattle.mc_pool_laws.specs.Executions.{LookUp, commands_of, executed, sent_at, told_by}
+use Rattle.mc_pool_laws.specs.Executions.{LookUp, commands_of, executed, reply_texts, sent_at}
 
 -- an entry that lets a server join
 abbrev pub joins : Logged → Bool
@@ -34,7 +34,7 @@ pub record AreOfOneMap (owner : List ℕ → ℕ) (caches : Caches) (look : Look
   pub all : (place : ℕ) → commands_at place (executed look histories log) ≡ commands_of look (histories place)
   pub act : ActAsMap owner empty_map caches (executed look histories log)
   pub told : (place : ℕ) → map (λ (e : Entry). e.reply) (histories place)
-      ≡ told_by (commands_of look (histories place)) (replies_at place (executed look histories log) (map_replies empty_map (executed look histories log)))
+      ≡ reply_texts (commands_of look (histories place)) (replies_at place (executed look histories log) (map_replies empty_map (executed look histories log)))
 
 -- if the run is plain, the histories are those of one map, from empty caches with these bounds
 abbrev pub ArePlainlyOfOneMap : RingState → ℕ → ℕ → LookUp → (ℕ → List Entry) → Log → Type 0

@@ -1,7 +1,7 @@
 -- What a client's text and the log show of a command, by its tag. All of it is this project's own.
 use Rattle.std.specs.Prelude.{ℕ, ◌≡◌, ◌<◌, List, [], ◌∷◌, Some, slice_get}
 use Rattle.mc_request.specs.declared.parts.Atom.{Atom}
-use Rattle.mc_request.specs.declared.parts.Taken.{Taken}
+use Rattle.mc_request.specs.declared.parts.Parsed.{Parsed}
 use Rattle.mc_request.specs.Requests.{requests_of}
 use Rattle.mc_ring.specs.Rings.{RingState}
 use Rattle.mc_route.specs.Routes.{route_of_taken, to_place}
@@ -14,14 +14,14 @@ use Rattle.mc_history.specs.Histories.{IsAnswered, tag_in}
 use Rattle.mc_world.specs.Logs.{IsRingAfter, Log, before, number_of, takes}
 
 -- a request of a client was taken: it is the one of its number in the client's text, and this was the ring when it was taken
-pub record IsTaken (opening : RingState) (texts : ℕ → List ℕ) (log : Log) (client request : ℕ) (what : Taken) (ring : RingState) : Type 0 where
+pub record IsTaken (opening : RingState) (texts : ℕ → List ℕ) (log : Log) (client request : ℕ) (what : Parsed) (ring : RingState) : Type 0 where
   pub turn : request < number_of (takes client) log
   pub sent : slice_get (requests_of (texts client)) request ≡ Some what
   pub then : IsRingAfter opening (before (takes client) request log) ring
 
 -- a command of such a request, with the place of its server by that ring
 pub record IsSent (opening : RingState) (texts : ℕ → List ℕ) (log : Log) (tag : Tag) (command : Routed) : Type 0 where
-  pub what : Taken
+  pub what : Parsed
   pub ring : RingState
   pub taken : IsTaken opening texts log tag.session tag.request what ring
   pub routed : slice_get (route_of_taken ring what) tag.atom ≡ Some command

@@ -2,7 +2,7 @@
 use Rattle.std.specs.Prelude.{ℕ, ◌≡◌, ◌≢◌, ◌<◌, true, List, ◌++◌, map, take, Some, slice_get, All}
 use Rattle.std.specs.List.{list_all}
 use Rattle.mc_request.specs.declared.parts.Atom.{Atom}
-use Rattle.mc_request.specs.declared.parts.Taken.{Taken}
+use Rattle.mc_request.specs.declared.parts.Parsed.{Parsed}
 use Rattle.mc_request.specs.Requests.{requests_of}
 use Rattle.mc_reply.specs.declared.replies.Reply.{Reply as AReply}
 use Rattle.mc_reply.specs.Spelling.{spelling_of}
@@ -17,7 +17,7 @@ use Rattle.mc_account.specs.Orders.{AreInOrder, IsSized, Order, TakenRequest, co
 use Rattle.mc_history.specs.declared.entries.Entry.{Entry}
 use Rattle.mc_history.specs.Histories.{HasReply, IsLegal, tag_in}
 use Rattle.mc_history.specs.Named.{tags_of}
-use Rattle.mc_world.specs.Accounts.{IsToldLost, NotAnswered, WasTaken, answers_by}
+use Rattle.mc_world.specs.Accounts.{NotAnswered, WasNeverSentOrLost, WasTaken, answers_by}
 use Rattle.mc_world.specs.Logs.{IsRingAfter, Log, before, in_life, loses, moments_of, number_of, puts, serves, takes, turns_of}
 
 -- the clauses of an account, by their names there; the second part of `placed` has a name of its own
@@ -42,7 +42,7 @@ pub data Clause : Type 0 where
 
 -- the clauses of an account, except one, as they are there
 pub record AccountsBut (one : Clause) (losses : Losses) (ring : RingState) (opening : CacheState) (order : Order) (texts outs : ℕ → List ℕ) (histories : ℕ → List Entry) (log : Log) : Type 0 where
-  pub asked : one ≢ Asked → (client : ℕ) → (untaken : List Taken) × (taken_of client order ++ untaken ≡ requests_of (texts client))
+  pub asked : one ≢ Asked → (client : ℕ) → (untaken : List Parsed) × (taken_of client order ++ untaken ≡ requests_of (texts client))
   pub turns : one ≢ Turns → map (λ (e : TakenRequest). e.session) order ≡ turns_of log
   pub numbered : one ≢ Numbered → (client : ℕ) → AreInOrder (entries_of client order)
   pub rings : one ≢ Rings → (client request : ℕ) (e : TakenRequest) → asked_at order client request ≡ Some e → IsRingAfter ring (before (takes client) request log) e.ring
@@ -53,7 +53,7 @@ pub record AccountsBut (one : Clause) (losses : Losses) (ring : RingState) (open
   pub replied : one ≢ Replied → (tag : Tag) (place : ℕ) (atom : Atom (List ℕ)) (reply : AReply (List ℕ)) → command_at order tag ≡ Some (to_place place atom)
       → outcome_at order tag ≡ Some (outcomes.Reply reply) → HasReply (histories place) tag (spelling_of atom reply)
   pub lost : one ≢ Lost → (tag : Tag) (place : ℕ) (atom : Atom (List ℕ)) → command_at order tag ≡ Some (to_place place atom)
-      → outcome_at order tag ≡ Some outcomes.Lost → IsToldLost place tag (histories place) log
+      → outcome_at order tag ≡ Some outcomes.Lost → WasNeverSentOrLost place tag (histories place) log
   pub ordered : one ≢ Ordered → (place j k : ℕ) (d e : Entry) (r q : AReply (List ℕ)) → slice_get (histories place) j ≡ Some d
       → slice_get (histories place) k ≡ Some e → j < k → d.client ≡ e.client → outcome_at order (tag_in d) ≡ Some (outcomes.Reply r)
       → outcome_at order (tag_in e) ≡ Some (outcomes.Reply q) → IsBefore (tag_in d) (tag_in e)

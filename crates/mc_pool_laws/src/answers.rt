@@ -7,7 +7,7 @@ ghost use Rattle.mc_cache.specs.CacheState.{CacheState};
 ghost use Rattle.mc_history.specs.declared.entries.Entry.{Entry};
 ghost use Rattle.mc_world.specs.Accounts.{Account};
 ghost use Rattle.mc_world.specs.Logs.{Log, before, number_of, puts, takes};
-ghost use Rattle.mc_pool_laws.specs.Told.{AreAnswersFrom};
+ghost use Rattle.mc_pool_laws.specs.Outcomes.{AreAnswersFrom};
 
 /// An answer is emitted only to a request that was taken before.
 pub fn answers_follow_requests()

@@ -7,7 +7,7 @@ ghost use Rattle.mc_request.specs.declared.meta.MetaForm.{MetaForm};
 ghost use Rattle.mc_request.specs.declared.meta.MetaGet.{MetaGet};
 ghost use Rattle.mc_request.specs.declared.parts.Request.{Request};
 ghost use Rattle.mc_request.specs.declared.parts.Request.TheVariants.{Get, Meta};
-ghost use Rattle.mc_request.specs.declared.parts.Taken.TheVariants.{Whole};
+ghost use Rattle.mc_request.specs.declared.parts.Parsed.TheVariants.{Whole};
 ghost use Rattle.mc_reply.specs.MetaSpelling.{meta_spelling};
 ghost use Rattle.mc_reply.specs.Spelling.{answer_of, end_line};
 ghost use Rattle.mc_reply.specs.declared.replies.Reply.{Reply};
@@ -20,10 +20,10 @@ ghost use Rattle.mc_proxy.specs.Sending.{tag_of};
 ghost use Rattle.mc_cache.specs.CacheState.{opening_cache};
 ghost use Rattle.mc_history.specs.Histories.{HasReply};
 ghost use Rattle.mc_history.specs.declared.entries.Entry.{Entry};
-ghost use Rattle.mc_world.specs.Accounts.{Account, IsToldLost};
+ghost use Rattle.mc_world.specs.Accounts.{Account, WasNeverSentOrLost};
 ghost use Rattle.mc_world.specs.Logs.{Log};
 ghost use Rattle.mc_pool_laws.specs.Choices.{HaveReplies, ShowReplies};
-ghost use Rattle.mc_pool_laws.specs.Told.{IsAnswerTo};
+ghost use Rattle.mc_pool_laws.specs.Outcomes.{IsAnswerTo};
 
 /// A value that is shown was a server's reply, as that server's history has it. This holds of each item of a `get`, whatever was lost; with
 /// `Told` it shows no item if a command was lost. With `Missed` an `mg` shows its server's reply, or, if it was lost, that there is no item.
@@ -42,7 +42,7 @@ pub fn shown_values_are_replies()
         → ((reply : Reply (List ℕ)) × (answer ≡ answer_of (Meta (metas.Get key get) form) (reply ∷ []))
         × HasReply (histories (owner_in h.ring key)) (tag_of client request 0) (meta_spelling reply))
         ⊎ ((answer ≡ (if form.quiet then [] else codes "EN\r\n"))
-        × IsToldLost (owner_in h.ring key) (tag_of client request 0) (histories (owner_in h.ring key)) log) }
+        × WasNeverSentOrLost (owner_in h.ring key) (tag_of client request 0) (histories (owner_in h.ring key)) log) }
 {}
 
 /// Nothing is reported as done that has no entry. The answer to a request that is no retrieval is made of the replies of its servers, as their

@@ -12,7 +12,7 @@ ghost use Rattle.mc_world.specs.Logs.{Log};
 ghost use Rattle.mc_world.specs.Quiet.{IsQuiet};
 ghost use Rattle.mc_world.specs.Worlds.{CourseState, history_of, put_out_of, taken_by, text_of};
 ghost use Rattle.mc_pool_laws.specs.Drained.{is_of_drain_at};
-ghost use Rattle.mc_pool_laws.specs.Told.{AreAnswersFrom};
+ghost use Rattle.mc_pool_laws.specs.Outcomes.{AreAnswersFrom};
 
 /// In the entries that a drain at a moment adds to the log, no client sends or goes, no link is lost or comes up, and no server
 /// joins. Each server takes its requests at that moment.

@@ -7,7 +7,7 @@ ghost use Rattle.mc_account.specs.Orders.{Order};
 ghost use Rattle.mc_history.specs.declared.entries.Entry.{Entry};
 ghost use Rattle.mc_history.specs.Histories.{tag_in};
 ghost use Rattle.mc_registers.specs.Registers.{Done, IsRun};
-ghost use Rattle.mc_registers.specs.Told.{TellEach, on_key};
+ghost use Rattle.mc_registers.specs.Records.{RecordEach, on_key};
 ghost use Rattle.mc_world.specs.Accounts.{Account, Accounts, WasTaken};
 ghost use Rattle.mc_world.specs.Logs.{Log, before, in_life, moments_of, number_of, serves};
 ghost use Rattle.mc_pool_laws.specs.Sent.{IsReplayed};
@@ -45,7 +45,7 @@ pub fn restarted_servers_keep_nothing()
 pub fn lives_are_registers()
     ensures { (losses : Losses) (ring : RingState) (budget items : ℕ) (order : Order) (texts outs : ℕ → List ℕ) (histories : ℕ → List Entry) (log : Log)
         → IsWithinBounds budget items → Accounts losses ring (opening_cache budget items 0) order texts outs histories log → (place life : ℕ)
-        → (all : List Done) × TellEach order place (in_life place life log (histories place)) all × ((key : List ℕ) → IsRun 0 None (on_key key all)) }
+        → (all : List Done) × RecordEach order place (in_life place life log (histories place)) all × ((key : List ℕ) → IsRun 0 None (on_key key all)) }
 {}
 
 /// Memory is refused only to a command that needs it: it stores an item under a key that is missing then, or makes the stored value longer.

@@ -3,7 +3,7 @@
 //! No program uses this crate. Its functions do nothing: their contracts are the laws. Each is proved from `Account` of `mc_world` alone, whatever
 //! order it has, except those of a drain and of one map. Each clause of the record `Accounts` has a law here that needs it: `docs/LAWS.md` has the
 //! table. To read on: `specs/Sent.antt` defines what a client's text shows of a command, `specs/Followed.antt` what the proxy sent to a server, and
-//! `specs/Told.antt` what the histories and the log show of a command. `specs/Choices.antt` defines what an answer shows by the choice for lost
+//! `specs/Outcomes.antt` what the histories and the log show of a command. `specs/Choices.antt` defines what an answer shows by the choice for lost
 //! commands, `specs/Wanted.antt` which commands memory may be refused to, and `specs/Drained.antt` what a drain adds to a log.
 //!
 //! # One map

@@ -11,18 +11,18 @@ ghost use Rattle.mc_account.specs.Lookups.{IsBefore, command_at, outcome_at};
 ghost use Rattle.mc_account.specs.Orders.{Order};
 ghost use Rattle.mc_history.specs.declared.entries.Entry.{Entry};
 ghost use Rattle.mc_history.specs.Histories.{tag_in};
-ghost use Rattle.mc_world.specs.Accounts.{Account, Accounts, IsToldLost, NotAnswered};
+ghost use Rattle.mc_world.specs.Accounts.{Account, Accounts, NotAnswered, WasNeverSentOrLost};
 ghost use Rattle.mc_world.specs.Logs.{Log, before, loses, number_of, puts, serves};
 ghost use Rattle.mc_pool_laws.specs.Followed.{FollowsProxy};
 ghost use Rattle.mc_pool_laws.specs.Sent.{IsSent};
-ghost use Rattle.mc_pool_laws.specs.Told.{HasEntry, HasOneEntry, LinkHeld, WasAnswered};
+ghost use Rattle.mc_pool_laws.specs.Outcomes.{HasEntry, HasOneEntry, LinkHeld, WasAnswered};
 
 /// Each command of an answered request was executed by its server, or was lost. If it was lost, either its link was down when its request was
 /// taken, and it was never executed; or its link was lost between then and the answer.
 pub fn answered_commands_are_executed_or_lost()
     ensures { (losses : Losses) (ring : RingState) (opening : CacheState) (texts outs : ℕ → List ℕ) (histories : ℕ → List Entry) (log : Log)
         → Account losses ring opening texts outs histories log → (tag : Tag) (command : Routed) → IsSent ring texts log tag command → WasAnswered tag log
-        → HasEntry (histories command.server) tag ⊎ IsToldLost command.server tag (histories command.server) log }
+        → HasEntry (histories command.server) tag ⊎ WasNeverSentOrLost command.server tag (histories command.server) log }
 {}
 
 /// If a server's link is never lost, each command of an answered request that goes to that server was executed there, exactly once, and

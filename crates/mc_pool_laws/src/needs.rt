@@ -13,7 +13,7 @@ ghost use Rattle.mc_world.specs.Accounts.{Accounts, NotAnswered, WasTaken};
 ghost use Rattle.mc_world.specs.Logs.{Log, before, in_life, loses, number_of, puts, serves, takes};
 ghost use Rattle.mc_pool_laws.specs.Followed.{FollowsProxy};
 ghost use Rattle.mc_pool_laws.specs.Sent.{IsReplayed};
-ghost use Rattle.mc_pool_laws.specs.Told.{IsUnaccounted, LinkHeld, WasAnswered};
+ghost use Rattle.mc_pool_laws.specs.Outcomes.{IsUnaccounted, LinkHeld, WasAnswered};
 ghost use Rattle.mc_pool_laws.specs.Without.{AccountsBut, After, Allows, Answered, Asked, Clause, Followed, Legal, Lost, Moments, Numbered, Once, Ordered, Placed, Put, Replied, Rings, Sized, Turns, Unanswered};
 
 /// The clauses that are left out one by one are those of the account.

@@ -6,7 +6,7 @@ ghost use Rattle.mc_cache_laws.specs.Examples.{flush_of, set_of};
 ghost use Rattle.mc_cache_laws.specs.Pools.{empty_map, map_replies};
 ghost use Rattle.mc_account.specs.Lookups.{command_at};
 ghost use Rattle.mc_history.specs.declared.entries.Entry.{Entry};
-ghost use Rattle.mc_pool_laws.specs.Executions.{commands_of, executed, told_by, turns_of};
+ghost use Rattle.mc_pool_laws.specs.Executions.{commands_of, executed, reply_texts, turns_of};
 ghost use Rattle.mc_pool_laws.specs.MergeExamples.{executed_at, one_history, set_and_flush, set_and_get, three_turns, two_histories, two_turns};
 ghost use Rattle.mc_pool_laws.specs.OneMaps.{IsPlainRun};
 
@@ -22,6 +22,6 @@ pub fn commands_are_merged_by_turns()
 pub fn a_set_and_a_get_are_plain()
     ensures plain { IsPlainRun (opening_cache 1000 2 0) (command_at set_and_get) one_history two_turns }
     ensures answered { map_replies empty_map (executed (command_at set_and_get) one_history two_turns) ≡ (Stored ∷ Hit 0 None (codes "v") ∷ []) }
-    ensures told { told_by (commands_of (command_at set_and_get) (one_history 0)) (Stored ∷ Hit 0 None (codes "v") ∷ [])
+    ensures told { reply_texts (commands_of (command_at set_and_get) (one_history 0)) (Stored ∷ Hit 0 None (codes "v") ∷ [])
         ≡ map (λ (e : Entry). e.reply) (one_history 0) }
 {}

@@ -1,7 +1,7 @@
 //! Laws of requests that were taken. The functions do nothing: their contracts are the laws.
 ghost use Rattle.std.specs.Prelude.{ℕ, ◌≡◌, ◌≤◌, ◌<◌, List, [], length};
 ghost use Rattle.mc_request.specs.Requests.{requests_of};
-ghost use Rattle.mc_request.specs.declared.parts.Taken.{Taken};
+ghost use Rattle.mc_request.specs.declared.parts.Parsed.{Parsed};
 ghost use Rattle.mc_ring.specs.Rings.{RingState};
 ghost use Rattle.mc_route.specs.declared.losses.Losses.{Losses};
 ghost use Rattle.mc_cache.specs.CacheState.{CacheState};
@@ -18,7 +18,7 @@ pub fn requests_are_taken_as_sent()
         → Account losses ring opening texts outs histories log → (client : ℕ) → number_of (takes client) log ≤ length (requests_of (texts client)) }
     ensures each { (losses : Losses) (ring : RingState) (opening : CacheState) (texts outs : ℕ → List ℕ) (histories : ℕ → List Entry) (log : Log)
         → Account losses ring opening texts outs histories log → (client request : ℕ) → request < number_of (takes client) log
-        → (what : Taken) × (now : RingState) × IsTaken ring texts log client request what now }
+        → (what : Parsed) × (now : RingState) × IsTaken ring texts log client request what now }
 {}
 
 /// The commands sent to a server are one list, which the clients' texts and the log determine. So a history that follows the proxy is

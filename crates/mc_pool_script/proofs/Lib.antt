@@ -2,4 +2,4 @@ pub mod PointLemmas
 pub mod AddressLemmas
 pub mod PoolLemmas
 pub mod PlayLemmas
-pub mod ToldLemmas
+pub mod PrintedLemmas

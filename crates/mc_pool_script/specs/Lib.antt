@@ -4,5 +4,5 @@ pub mod PoolScripts
 pub mod Kinds
 pub mod Stores
 pub mod Plays
-pub mod Told
+pub mod Printed
 pub mod PoolTexts

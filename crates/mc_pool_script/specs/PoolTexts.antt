@@ -3,7 +3,7 @@ use Rattle.std.specs.Prelude.{◌≡◌, ℕ, List, ◌++◌, length, Ok}
 use Rattle.mc_script.specs.Escapes.{client_lines}
 use Rattle.mc_pool_script.specs.PoolScripts.{PoolSeen, pool_script_of, servers_of}
 use Rattle.mc_pool_script.specs.Plays.{HasPlayed, outs_of}
-use Rattle.mc_pool_script.specs.Told.{account_lines}
+use Rattle.mc_pool_script.specs.Printed.{account_lines}
 use Rattle.mc_world.specs.Worlds.{WorldState}
 use Rattle.mc_world.specs.declared.errors.Step.{Step}
 

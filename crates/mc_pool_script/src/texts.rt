@@ -6,8 +6,8 @@ ghost use Rattle.mc_pool_script.specs.PoolTexts.{AreStepsOf, IsAccountOf, IsPool
 
 use crate::outputs::push_output_lines;
 use crate::plays::played_script;
+use crate::printed::push_account;
 use crate::scripts::read_pool_script;
-use crate::told::push_account;
 use mc_script::{ScriptStore, SimError};
 use mc_world::Step;
 use std::alloc::Global;

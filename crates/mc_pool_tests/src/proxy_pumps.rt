@@ -54,8 +54,8 @@ const EXCHANGES: [Exchange; 3] = [
 const REQUESTS: usize = 7;
 
 /// The bytes that a client is sent if the first `known` of its requests were answered, and the link was lost then.
-fn told(alloc: Global, exchange: &Exchange, known: usize) -> Result<Vec<u8>, AllocError> {
-    let mut told = Vec::new(alloc);
+fn answers_until(alloc: Global, exchange: &Exchange, known: usize) -> Result<Vec<u8>, AllocError> {
+    let mut answers = Vec::new(alloc);
     for (at, (answer, is_sent)) in exchange.answers.iter().enumerate() {
         let is_lost = *is_sent && at >= known;
         let line = if is_lost {
@@ -63,15 +63,15 @@ fn told(alloc: Global, exchange: &Exchange, known: usize) -> Result<Vec<u8>, All
         } else {
             *answer
         };
-        told.extend_from_slice(line)?;
+        answers.extend_from_slice(line)?;
     }
-    Ok(told)
+    Ok(answers)
 }
 
 /// Whether a client was sent its answers, or from some request on the line of a lost link.
-fn is_told(alloc: Global, exchange: &Exchange, taken: &[u8]) -> Result<bool, AllocError> {
+fn are_answers(alloc: Global, exchange: &Exchange, taken: &[u8]) -> Result<bool, AllocError> {
     for known in 0..=REQUESTS {
-        if told(alloc, exchange, known)?.as_slice() == taken {
+        if answers_until(alloc, exchange, known)?.as_slice() == taken {
             return Ok(true);
         }
     }
@@ -195,7 +195,7 @@ fn calls_of(
 ) -> Result<Option<Sides>, Fail> {
     let (last, made, taken) = play(alloc, pool, exchange.sent, sides)?;
     let is_whole = last == Pumped::Done
-        && taken.as_slice() == told(alloc, exchange, REQUESTS)?.as_slice();
+        && taken.as_slice() == answers_until(alloc, exchange, REQUESTS)?.as_slice();
     Ok(is_whole.then_some(made))
 }
 
@@ -253,9 +253,9 @@ fn ends_alone(
     let mut pool = new_pool(alloc, streams.link)?;
     let (last, _, taken) = play(alloc, &mut pool, exchange.sent, streams.client)?;
     let is_so = if end.0 {
-        last == Pumped::Done && is_told(alloc, exchange, &taken)?
+        last == Pumped::Done && are_answers(alloc, exchange, &taken)?
     } else {
-        last == Pumped::Failed && told(alloc, exchange, REQUESTS)?.starts_with(&taken)
+        last == Pumped::Failed && answers_until(alloc, exchange, REQUESTS)?.starts_with(&taken)
     };
     mend(alloc, &mut pool, calm.link)?;
     let [first, _, _] = &EXCHANGES;

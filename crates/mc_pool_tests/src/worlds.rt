@@ -232,7 +232,7 @@ fn play(world: &mut World<ListStore>, line: &PoolLine) -> Result<(), Fail>
 }
 
 /// All bytes that were emitted to the client of a script.
-fn told(alloc: Global, script: &PoolScript) -> Result<Vec<u8>, Fail> {
+fn emitted_bytes(alloc: Global, script: &PoolScript) -> Result<Vec<u8>, Fail> {
     let mut world = opened(alloc, script)?;
     for line in script.lines() {
         play(&mut world, line)?;
@@ -243,12 +243,12 @@ fn told(alloc: Global, script: &PoolScript) -> Result<Vec<u8>, Fail> {
 /// Whether a script ends in one of the ways that it may end.
 fn ends_so(alloc: Global, script: &Script) -> Result<bool, Fail> {
     let read = read(alloc, script.text)?;
-    let told = told(alloc, &read)?;
+    let bytes = emitted_bytes(alloc, &read)?;
     Ok(
         script
             .outputs
             .iter()
-            .any(|output| told.as_slice() == *output),
+            .any(|output| bytes.as_slice() == *output),
     )
 }
 

@@ -3,4 +3,4 @@ pub mod Logs
 pub mod Sizes
 pub mod Sockets
 pub mod Statuses
-pub mod Paces
+pub mod Tickers

@@ -126,8 +126,8 @@ impl<R: Clock> LoggingRuntime<R> {
     fn time(&self) -> Timestamp {
         let since = self.rt.since_1970();
         let seconds = since.map_or(0, |since| since.as_secs());
-        let told = i64::try_from(seconds).unwrap_or(0);
-        Timestamp::from_second(told).unwrap_or(Timestamp::UNIX_EPOCH)
+        let signed = i64::try_from(seconds).unwrap_or(0);
+        Timestamp::from_second(signed).unwrap_or(Timestamp::UNIX_EPOCH)
     }
 }
 

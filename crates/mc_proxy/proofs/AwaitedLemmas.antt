@@ -4,11 +4,11 @@ use Rattle.std.specs.List.{list_all}
 use Rattle.std.proofs.lemmas.Bool.Decides.{nat_tests}
 use Rattle.mc_route.specs.declared.outcomes.Outcome.{Outcome}
 use Rattle.mc_route.specs.declared.outcomes.Outcome.TheVariants.{Awaited, Reply, Lost}
-use Rattle.mc_proxy.specs.Emits.{is_told, count_awaited, awaited_in}
-use Rattle.mc_proxy.specs.SessionNoting.{with_outcome}
+use Rattle.mc_proxy.specs.Emits.{is_noted, count_awaited, awaited_in}
+use Rattle.mc_proxy.specs.SessionNoting.{set_outcome}
 
 -- if none is pending, the outcome of each command is known
-pub none_awaited : (outcomes : List Outcome) → (awaited_in outcomes == 0) ≡ list_all is_told outcomes
+pub none_awaited : (outcomes : List Outcome) → (awaited_in outcomes == 0) ≡ list_all is_noted outcomes
 none_awaited [] = refl
 none_awaited (Awaited ∷ outcomes) = grind (arith, nat_tests)
 none_awaited (Reply reply ∷ outcomes) = grind (arith, none_awaited outcomes)
@@ -22,10 +22,10 @@ awaited_bound (Reply reply ∷ outcomes) = omega (arith, awaited_bound outcomes)
 awaited_bound (Lost ∷ outcomes) = omega (arith, awaited_bound outcomes)
 
 -- if there is no outcome of that number nothing changes
-pub with_outcome_outside : (at : ℕ) (outcome : Outcome) (outcomes : List Outcome) → length outcomes ≤ at → with_outcome at outcome outcomes ≡ outcomes
-with_outcome_outside at outcome [] outside = refl
-with_outcome_outside zero outcome (slot ∷ slots) outside = absurd (omega arith)
-with_outcome_outside (suc at) outcome (slot ∷ slots) outside = rw (with_outcome_outside at outcome slots (omega arith)) refl
+pub set_outcome_outside : (at : ℕ) (outcome : Outcome) (outcomes : List Outcome) → length outcomes ≤ at → set_outcome at outcome outcomes ≡ outcomes
+set_outcome_outside at outcome [] outside = refl
+set_outcome_outside zero outcome (slot ∷ slots) outside = absurd (omega arith)
+set_outcome_outside (suc at) outcome (slot ∷ slots) outside = rw (set_outcome_outside at outcome slots (omega arith)) refl
 
 -- that outcome is counted among them
 pub counted_bound : (at : ℕ) (before : Outcome) (outcomes : List Outcome) → at < length outcomes → before ≡ get_or outcomes at before

@@ -4,7 +4,7 @@ use Rattle.std.specs.List.{list_any}
 use Rattle.std.specs.Prelude.{◌↔◌, IsTrue}
 use Rattle.std.proofs.lemmas.Bool.{cases_lt}
 use Rattle.std.proofs.lemmas.Bool.Decides.{nat_tests}
-use Rattle.mc_request.specs.declared.parts.Taken.{Taken}
+use Rattle.mc_request.specs.declared.parts.Parsed.{Parsed}
 use Rattle.mc_request_reader.specs.declared.peeks.Front.{Front}
 use Rattle.mc_request_reader.specs.Peeks.{Shows, past}
 use Rattle.mc_request_reader.specs.Reader.{rest_of}
@@ -96,12 +96,12 @@ none_marked links (command ∷ commands) none =
     rw (here, others) refl
 
 -- a request must wait for a mark of its session's own, or for that of a link that it needs
-pub marked_by_parts : (ring : RingState) (links : List LinkState) (session : SessionState) (what : Taken) (own result : Bool) → own ≡ is_session_marked session
+pub marked_by_parts : (ring : RingState) (links : List LinkState) (session : SessionState) (what : Parsed) (own result : Bool) → own ≡ is_session_marked session
     → result ≡ (own || any_marked links (route_of_taken ring what)) → result ≡ is_marked session links (route_of_taken ring what)
 marked_by_parts ring links session what own result own_is is = is ∙ ap (λ (b : Bool). b || any_marked links (route_of_taken ring what)) own_is
 
 -- a mark is reached
-pub held : (ring : RingState) (links : List LinkState) (session : SessionState) (what : Taken) (front : Front) → Shows session.reader what front
+pub held : (ring : RingState) (links : List LinkState) (session : SessionState) (what : Parsed) (front : Front) → Shows session.reader what front
     → is_marked session links (route_of_taken ring what) ≡ true → IsHeldUp ring links session
 held ring links session what front shows marked = record {
   what = what;
@@ -111,7 +111,7 @@ held ring links session what front shows marked = record {
 }
 
 -- no mark is reached, neither of the session nor of a link that the request needs
-pub unheld : (ring : RingState) (links : List LinkState) (session : SessionState) (what : Taken) (front : Front) → Shows session.reader what front
+pub unheld : (ring : RingState) (links : List LinkState) (session : SessionState) (what : Parsed) (front : Front) → Shows session.reader what front
     → is_marked session links (route_of_taken ring what) ≡ false → IsReady ring links session
 unheld ring links session what front shows unmarked = record {
   what = what;
@@ -121,7 +121,7 @@ unheld ring links session what front shows unmarked = record {
 }
 
 -- no mark is reached
-pub ready : (ring : RingState) (links : List LinkState) (session : SessionState) (what : Taken) (front : Front) → Shows session.reader what front
+pub ready : (ring : RingState) (links : List LinkState) (session : SessionState) (what : Parsed) (front : Front) → Shows session.reader what front
     → is_session_marked session ≡ false → any_marked links (route_of_taken ring what) ≡ false → IsReady ring links session
 ready ring links session what front shows own others = record {
   what = what;
@@ -136,15 +136,15 @@ or_none false false none = (refl, refl)
 or_none false true none = absurd cc
 or_none true b none = absurd cc
 
-ready_unmarked : (ring : RingState) (links : List LinkState) (session : SessionState) (what : Taken) (front : Front) → Shows session.reader what front
+ready_unmarked : (ring : RingState) (links : List LinkState) (session : SessionState) (what : Parsed) (front : Front) → Shows session.reader what front
     → IsReady ring links session → (is_session_marked session ≡ false) × (any_marked links (route_of_taken ring what) ≡ false)
 ready_unmarked ring links session what front shows is =
     let same : is.what ∷ is.others ≡ what ∷ rest_of (past front session.reader) [] = sym is.first ∙ shown_waits session.reader what front shows in
     let one : is.what ≡ what = cc in
     or_none (is_session_marked session) (any_marked links (route_of_taken ring what))
-    (subst (λ (w : Taken). is_marked session links (route_of_taken ring w) ≡ false) one is.unmarked)
+    (subst (λ (w : Parsed). is_marked session links (route_of_taken ring w) ≡ false) one is.unmarked)
 
-pub ready_if : (ring : RingState) (links : List LinkState) (session : SessionState) (what : Taken) (front : Front) → Shows session.reader what front
+pub ready_if : (ring : RingState) (links : List LinkState) (session : SessionState) (what : Parsed) (front : Front) → Shows session.reader what front
     → (own others : Bool) → own ≡ is_session_marked session → others ≡ any_marked links (route_of_taken ring what)
     → IsTrue (not own && not others) ↔ IsReady ring links session
 ready_if ring links session what front shows false false own others =
@@ -164,5 +164,5 @@ at_error (Ok x) holds = tt
 at_error (Err e) holds = holds
 
 -- what a look at the first request says of a server
-pub waits_by : (ring : RingState) (place : ℕ) (waiting now : List Taken) (b : Bool) → waiting ≡ now → b ≡ waits_for ring place now → b ≡ waits_for ring place waiting
+pub waits_by : (ring : RingState) (place : ℕ) (waiting now : List Parsed) (b : Bool) → waiting ≡ now → b ≡ waits_for ring place now → b ≡ waits_for ring place waiting
 waits_by ring place waiting now b is told = rw is told

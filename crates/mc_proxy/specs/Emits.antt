@@ -2,8 +2,8 @@
 use Rattle.std.specs.Prelude.{ℕ, ◌+◌, ◌≡◌, Bool, true, false, List, [], ◌∷◌, ◌++◌, Option, Some, None, if◌then◌else◌}
 use Rattle.std.specs.List.{list_all}
 use Rattle.mc_request.specs.Faults.{fault_line}
-use Rattle.mc_request.specs.declared.parts.Taken.{Taken}
-use Rattle.mc_request.specs.declared.parts.Taken.TheVariants.{Whole, Faulty}
+use Rattle.mc_request.specs.declared.parts.Parsed.{Parsed}
+use Rattle.mc_request.specs.declared.parts.Parsed.TheVariants.{Whole, Faulty}
 use Rattle.mc_route.specs.Losses.{hides_loss, joined_with}
 use Rattle.mc_route.specs.declared.losses.Losses.{Losses}
 use Rattle.mc_route.specs.declared.outcomes.Outcome.{Outcome}
@@ -13,34 +13,34 @@ use Rattle.mc_proxy.specs.declared.session_turns.Emit.{Emit}
 use Rattle.mc_proxy.specs.declared.session_turns.Emit.TheVariants.{Done, Idle}
 
 -- whether the outcome of a command is known
-abbrev pub is_told : Outcome → Bool
-is_told Awaited = false
-is_told (Reply reply) = true
-is_told Lost = true
+abbrev pub is_noted : Outcome → Bool
+is_noted Awaited = false
+is_noted (Reply reply) = true
+is_noted Lost = true
 
 -- how many replies are pending
 abbrev pub count_awaited : Outcome → ℕ
-count_awaited outcome = if is_told outcome then 0 else 1
+count_awaited outcome = if is_noted outcome then 0 else 1
 
 abbrev pub awaited_in : List Outcome → ℕ
 awaited_in [] = 0
 awaited_in (outcome ∷ outcomes) = count_awaited outcome + awaited_in outcomes
 
 -- the answer to what was taken, by the choice for lost commands and the outcomes of its commands
-abbrev pub answer_by : Losses → Taken → List Outcome → List ℕ
+abbrev pub answer_by : Losses → Parsed → List Outcome → List ℕ
 answer_by losses (Whole request) outcomes = joined_with losses request outcomes
 answer_by losses (Faulty fault) outcomes = fault_line fault
 
 -- whether the outcome of each of its commands is known
 abbrev pub is_known : Unanswered → Bool
-is_known open_one = list_all is_told open_one.outcomes
+is_known open_one = list_all is_noted open_one.outcomes
 
 -- the answer to a request that was taken
 abbrev pub answer_of_one : Unanswered → List ℕ
 answer_of_one open_one = answer_by open_one.losses open_one.what open_one.outcomes
 
 -- whether a command of what was taken was lost, and its answer does not say so
-abbrev pub hides_loss_by : Losses → Taken → List Outcome → Bool
+abbrev pub hides_loss_by : Losses → Parsed → List Outcome → Bool
 hides_loss_by losses (Whole request) outcomes = hides_loss losses request outcomes
 hides_loss_by losses (Faulty fault) outcomes = false
 

@@ -5,19 +5,19 @@ use Rattle.mc_link.specs.declared.turns.Tag.{Tag}
 use Rattle.mc_proxy.specs.SessionState.{Unanswered, SessionState, answered}
 
 -- the outcomes, with this one for the command of a number, if there is such a command
-abbrev pub with_outcome : ℕ → Outcome → List Outcome → List Outcome
-with_outcome at outcome [] = []
-with_outcome zero outcome (slot ∷ slots) = outcome ∷ slots
-with_outcome (suc at) outcome (slot ∷ slots) = slot ∷ with_outcome at outcome slots
+abbrev pub set_outcome : ℕ → Outcome → List Outcome → List Outcome
+set_outcome at outcome [] = []
+set_outcome zero outcome (slot ∷ slots) = outcome ∷ slots
+set_outcome (suc at) outcome (slot ∷ slots) = slot ∷ set_outcome at outcome slots
 
 -- likewise in the unanswered request at a place
-abbrev pub noted_at : ℕ → ℕ → Outcome → List Unanswered → List Unanswered
-noted_at place atom outcome [] = []
-noted_at zero atom outcome (open_one ∷ others) = record open_one { outcomes = with_outcome atom outcome open_one.outcomes } ∷ others
-noted_at (suc place) atom outcome (open_one ∷ others) = open_one ∷ noted_at place atom outcome others
+abbrev pub set_outcome_of_request : ℕ → ℕ → Outcome → List Unanswered → List Unanswered
+set_outcome_of_request place atom outcome [] = []
+set_outcome_of_request zero atom outcome (open_one ∷ others) = record open_one { outcomes = set_outcome atom outcome open_one.outcomes } ∷ others
+set_outcome_of_request (suc place) atom outcome (open_one ∷ others) = open_one ∷ set_outcome_of_request place atom outcome others
 
 -- likewise in a session; a request that is answered is no longer there
-abbrev pub noted_in : Tag → Outcome → SessionState → SessionState
-noted_in tag outcome session =
+abbrev pub set_outcome_in_session : Tag → Outcome → SessionState → SessionState
+set_outcome_in_session tag outcome session =
     if nat_lt tag.request (answered session) then session
-    else record session { unanswered = noted_at (tag.request - answered session) tag.atom outcome session.unanswered }
+    else record session { unanswered = set_outcome_of_request (tag.request - answered session) tag.atom outcome session.unanswered }

@@ -1,6 +1,6 @@
 -- A session, as contracts see it.
 use Rattle.std.specs.Prelude.{ℕ, ◌-◌, List, [], length, map, slice_index_or, slice_set}
-use Rattle.mc_request.specs.declared.parts.Taken.{Taken}
+use Rattle.mc_request.specs.declared.parts.Parsed.{Parsed}
 use Rattle.mc_request_reader.specs.Reader.{ReaderState, fresh_reader}
 use Rattle.mc_route.specs.declared.losses.Losses.{Losses}
 use Rattle.mc_route.specs.declared.outcomes.Outcome.{Outcome}
@@ -9,7 +9,7 @@ use Rattle.mc_link.specs.LinkState.{LinkState, RoomyLink, down_link}
 -- a request or fault that was taken and is not answered: without its data block, with the choice for its lost commands, and with the
 -- outcomes of its commands so far
 pub record Unanswered : Type 0 where
-  pub what : Taken
+  pub what : Parsed
   pub losses : Losses
   pub outcomes : List Outcome
 

@@ -1,6 +1,6 @@
 -- What a call of a session does.
 use Rattle.std.specs.Prelude.{ℕ, ◌≡◌, ◌+◌, true, false, List, [], ◌∷◌, ◌++◌, map}
-use Rattle.mc_request.specs.declared.parts.Taken.{Taken}
+use Rattle.mc_request.specs.declared.parts.Parsed.{Parsed}
 use Rattle.mc_request_reader.specs.Peeks.{IsFirst, HasNone}
 use Rattle.mc_request_reader.specs.Reader.{rest_of}
 use Rattle.mc_request.specs.Requests.{ends}
@@ -23,7 +23,7 @@ pub record IsFed (piece : List ℕ) (before after : SessionState) : Type 0 where
 
 -- the first request or fault of the session's rest is taken, and no mark is reached; its commands go to the links of their
 -- owners, in their order, and it is the last unanswered one, with this choice for its lost commands
-pub record Takes (number : ℕ) (ring : RingState) (losses : Losses) (links now : List LinkState) (before after : SessionState) (what : Taken) : Type 0 where
+pub record Takes (number : ℕ) (ring : RingState) (losses : Losses) (links now : List LinkState) (before after : SessionState) (what : Parsed) : Type 0 where
   pub first : IsFirst before.reader what after.reader
   pub closed : after.reader.closed ≡ ends what
   pub unmarked : is_marked before links (route_of_taken ring what) ≡ false
@@ -35,8 +35,8 @@ pub record Takes (number : ℕ) (ring : RingState) (losses : Losses) (links now 
 
 -- the first request or fault of the session's rest reaches a mark
 pub record IsHeldUp (ring : RingState) (links : List LinkState) (session : SessionState) : Type 0 where
-  pub what : Taken
-  pub others : List Taken
+  pub what : Parsed
+  pub others : List Parsed
   pub first : rest_of session.reader [] ≡ what ∷ others
   pub marked : is_marked session links (route_of_taken ring what) ≡ true
 
@@ -46,7 +46,7 @@ IsUnchanged links now before after = (now ≡ links) × (after ≡ before)
 
 -- what a turn of the session of a number does, over the links of a ring
 abbrev pub IsTurn : ℕ → SessionTurn → RingState → Losses → List LinkState → List LinkState → SessionState → SessionState → Type 0
-IsTurn number Took ring losses links now before after = (what : Taken) × Takes number ring losses links now before after what
+IsTurn number Took ring losses links now before after = (what : Parsed) × Takes number ring losses links now before after what
 IsTurn number Idle ring losses links now before after = HasNone before.reader before.reader × IsUnchanged links now before after
 IsTurn number Waiting ring losses links now before after = IsHeldUp ring links before × IsUnchanged links now before after
 IsTurn number Closing ring losses links now before after = (before.reader.closed ≡ true) × IsUnchanged links now before after

@@ -1,6 +1,6 @@
 -- What a call of a session does to the proxy.
 use Rattle.std.specs.Prelude.{ℕ, ◌≡◌, ◌≢◌, Bool, false, List, [], Option, Some, None}
-use Rattle.mc_request.specs.declared.parts.Taken.{Taken}
+use Rattle.mc_request.specs.declared.parts.Parsed.{Parsed}
 use Rattle.mc_request_reader.specs.Reader.{rest_of}
 use Rattle.mc_link.specs.LinkState.{LinkState}
 use Rattle.mc_proxy.specs.Emits.{emitted, hides_loss_first}
@@ -9,7 +9,7 @@ use Rattle.mc_proxy.specs.SessionState.{SessionState}
 use Rattle.mc_proxy.specs.ProxyState.{ProxyState, session_at, updated}
 
 -- what a session has for its turns to take, if nothing more arrives: nothing if it is not open
-abbrev pub waiting_of : Option SessionState → List Taken
+abbrev pub waiting_of : Option SessionState → List Parsed
 waiting_of None = []
 waiting_of (Some session) = rest_of session.reader []
 

@@ -30,7 +30,7 @@
 //! command of the oldest unanswered request is known, its answer is emitted ([`Session::emit`]). The answer follows the choice for lost
 //! commands that its turn was given ([`mc_route::Losses`]). The caller sends it ([`Session::output`], [`Session::taken_out`]). So answers
 //! are in the order of the requests, in whatever order replies arrive. [`Session::unanswered`], [`Session::is_finished`], [`Session::ready`]
-//! and [`Session::waits_for`] report its state, and [`Session::give_back`] frees large empty buffers.
+//! and [`Session::waits_for`] report its state, and [`Session::shrink_if_idle`] frees large empty buffers.
 //!
 //! A turn waits if a mark is reached: [`MAX_UNANSWERED`], [`UNSENT_MARK`] or [`LINK_MARK`]. `specs/SessionState.antt` says what a session
 //! is, `specs/SessionTurns.antt` what a turn does, `specs/Sending.antt` how commands are sent, and `specs/SessionNoting.antt` and

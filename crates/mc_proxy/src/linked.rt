@@ -163,13 +163,13 @@ impl Proxy {
 
     /// Frees the memory of each empty buffer of a link that has room for more than `kept` bytes or commands. It is for a link
     /// that is idle.
-    pub fn link_give_back(&mut self, server: usize, kept: usize)
+    pub fn link_shrink_if_idle(&mut self, server: usize, kept: usize)
         ensures { self.new ≡ self.old }
     {
         let Some(link) = self.links.get_mut(server) else {
             return;
         };
-        link.give_back(kept);
+        link.shrink_if_idle(kept);
     }
 
     /// Adds a server at the last place, and returns that place. Its link is up, of the first generation, or down. Requests

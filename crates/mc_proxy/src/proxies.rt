@@ -252,13 +252,13 @@ impl Proxy {
     /// Frees the memory of each empty buffer of a session that has room for more than `kept` bytes or requests. It is for a session that is
     /// idle. If no session has this number, it does nothing.
     #[tactic(auto, using(mc_table::proofs::NumberedEntryLemmas::updated_same))]
-    pub fn give_back(&mut self, number: u64, kept: usize)
+    pub fn shrink_if_idle(&mut self, number: u64, kept: usize)
         ensures { self.new ≡ self.old }
     {
         let Some(session) = self.sessions.get_mut(number) else {
             return;
         };
-        session.give_back(kept);
+        session.shrink_if_idle(kept);
     }
 
     /// Ends a session: drops its text, its answers and its unanswered requests. Replies to its pending commands are dropped when they arrive.

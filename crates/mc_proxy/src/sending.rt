@@ -15,7 +15,7 @@ use crate::session_limits::LINK_MARK;
 use crate::unanswered::Unanswered;
 use mc_codec::spelled_len as spelled_len_of;
 use mc_link::{Link, Tag};
-use mc_request::Asked;
+use mc_request::RequestRef;
 use mc_ring::Ring;
 use mc_route::{Outcome, Routed, goes_to};
 use std::alloc::Global;
@@ -36,7 +36,7 @@ pub fn start_at_front(alloc: Global, queue: &mut VecDeque<Routed>)
 
 /// Returns whether a link that a request needs has reached its mark of unsent bytes. It takes no memory, and looks at no key
 /// if no link has.
-pub fn is_any_marked(links: &[Link], asked: &Asked<'_>, ring: &Ring) -> bool
+pub fn is_any_marked(links: &[Link], asked: &RequestRef<'_>, ring: &Ring) -> bool
     requires { is_well_formed (asked_of asked.now) ≡ true }
     ensures { result ≡ list_any (λ command. is_link_marked (link_at (states links.now) command.server)) (route_of_taken ring.now (asked_of asked.now)) }
 {
@@ -50,7 +50,7 @@ pub fn is_any_marked(links: &[Link], asked: &Asked<'_>, ring: &Ring) -> bool
 
 /// Returns whether a request must wait: its session has reached a mark of its own, or a link that it needs has. It takes no
 /// memory.
-pub fn is_held_up(marked: bool, links: &[Link], asked: &Asked<'_>, ring: &Ring) -> bool
+pub fn is_held_up(marked: bool, links: &[Link], asked: &RequestRef<'_>, ring: &Ring) -> bool
     requires { is_well_formed (asked_of asked.now) ≡ true }
     ensures { result ≡ (marked
         || list_any (λ command. is_link_marked (link_at (states links.now) command.server)) (route_of_taken ring.now (asked_of asked.now))) }
@@ -59,7 +59,7 @@ pub fn is_held_up(marked: bool, links: &[Link], asked: &Asked<'_>, ring: &Ring) 
 }
 
 /// Returns whether the link at a place has reached its mark of unsent bytes, and the request needs it.
-fn is_marked_for(links: &[Link], asked: &Asked<'_>, ring: &Ring, place: usize) -> bool
+fn is_marked_for(links: &[Link], asked: &RequestRef<'_>, ring: &Ring, place: usize) -> bool
     requires { is_well_formed (asked_of asked.now) ≡ true }
     ensures { result
         ≡ (is_link_marked (link_at (states links.now) place) && goes_to place (route_of_taken ring.now (asked_of asked.now))) }

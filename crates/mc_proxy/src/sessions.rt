@@ -10,11 +10,11 @@ use crate::session_turns::{Emit, SessionTurn};
 use crate::stores::{may_store, send_store};
 use crate::unanswered::Unanswered;
 use mc_link::{Link, Tag};
-use mc_request::{Asked, Taken};
+use mc_request::{Parsed, RequestRef};
 use mc_request_reader::{Front, LentGet, Peek, Reader};
 use mc_ring::Ring;
 use mc_route::{Losses, Outcome, Routed, goes_to, route};
-use mc_text::{give_back, let_go};
+use mc_text::{consume_front, shrink_if_idle};
 use std::alloc::Global;
 use std::collections::VecDeque;
 use std::marker::Model;
@@ -51,7 +51,7 @@ impl Session {
     ghost use Rattle.mc_route.specs.Routes.{route_of_taken};
     ghost use Rattle.mc_proxy.specs.SessionState.{fresh_session};
     ghost use Rattle.mc_proxy.specs.Emits.{IsEmit, emitted, hides_loss_first};
-    ghost use Rattle.mc_proxy.specs.SessionNoting.{noted_in};
+    ghost use Rattle.mc_proxy.specs.SessionNoting.{set_outcome_in_session};
     ghost use Rattle.mc_proxy.specs.Sending.{at_once, handed, is_marked, is_session_marked};
     ghost use Rattle.mc_proxy.specs.Looks.{IsReady, waits_for};
     ghost use Rattle.mc_proxy.specs.SessionTurns.{IsFed, IsTurn};
@@ -111,7 +111,7 @@ impl Session {
         ensures links_kept { OnErr result (states links.new ≡ states links.old) }
         ensures emptied { queue.new.items ≡ [] }
     {
-        if self.reader.is_short() {
+        if self.reader.needs_more() {
             return Ok(SessionTurn::Idle);
         }
         let Some(get) = self.reader.peek_get() else {
@@ -123,7 +123,7 @@ impl Session {
                 with_cas,
                 front,
             } = get;
-            let asked = Asked::Get {
+            let asked = RequestRef::Get {
                 keys,
                 exptime: None,
                 with_cas,
@@ -239,7 +239,7 @@ impl Session {
     }
 
     /// Returns whether the session has reached a mark of its own, or a link that the request needs has.
-    fn must_wait(&self, links: &[Link], asked: &Asked<'_>, ring: &Ring) -> bool
+    fn must_wait(&self, links: &[Link], asked: &RequestRef<'_>, ring: &Ring) -> bool
         requires { is_well_formed (asked_of asked.now) ≡ true }
         ensures { result ≡ is_marked self.now (states links.now) (route_of_taken ring.now (asked_of asked.now)) }
     {
@@ -255,7 +255,7 @@ impl Session {
         losses: Losses,
         links: &mut [Link],
         queue: &mut VecDeque<Routed>,
-        kept: Taken,
+        kept: Parsed,
         front: Front,
     ) -> Result<(), SessionError>
         requires first { front_of self.old.reader ≡ Some front }
@@ -314,7 +314,7 @@ impl Session {
 
     /// Records the outcome of a command. If its request is answered, the outcome is dropped.
     pub fn note(&mut self, tag: Tag, outcome: Outcome)
-        ensures { self.new ≡ noted_in tag outcome self.old }
+        ensures { self.new ≡ set_outcome_in_session tag outcome self.old }
     {
         let answered = self.taken - self.unanswered.len() as u64;
         let Some(place) = tag.request.checked_sub(answered) else {
@@ -387,15 +387,15 @@ impl Session {
         requires { count ≤ length self.old.output }
         ensures { self.new ≡ record self.old { output = drop count self.old.output } }
     {
-        self.sent = let_go(&mut self.output, self.sent + count);
+        self.sent = consume_front(&mut self.output, self.sent + count);
     }
 
     /// Frees the memory of each empty buffer that has room for more than `kept` bytes or requests.
-    pub fn give_back(&mut self, kept: usize)
+    pub fn shrink_if_idle(&mut self, kept: usize)
         ensures { self.new ≡ self.old }
     {
-        self.reader.give_back(kept);
-        give_back(&mut self.output, kept);
+        self.reader.shrink_if_idle(kept);
+        shrink_if_idle(&mut self.output, kept);
         if self.unanswered.is_empty() && self.unanswered.capacity() > kept {
             self.unanswered.shrink_to_fit();
         }

@@ -17,7 +17,7 @@ use crate::session_errors::SessionError;
 use crate::unanswered::Unanswered;
 use mc_codec::{LentStore, store_len};
 use mc_link::{Link, Tag};
-use mc_request::{Asked, Request, StoreMode, Taken, Update};
+use mc_request::{Parsed, Request, RequestRef, StoreMode, Update};
 use mc_ring::Ring;
 use mc_route::{Losses, Outcome};
 use mc_text::{Block, Key};
@@ -37,7 +37,7 @@ pub fn may_store(unread: &[u8]) -> bool {
 /// the command is sent.
 pub fn send_store(
     alloc: Global,
-    asked: &Asked<'_>,
+    asked: &RequestRef<'_>,
     session: u64,
     request: u64,
     ring: &Ring,
@@ -58,7 +58,7 @@ pub fn send_store(
     ensures links_kept { OnErr result (states links.new ≡ states links.old) }
     ensures unanswered_kept { OnErr result (unanswered.new.items ≡ unanswered.old.items) }
 {
-    let Asked::Update { update, noreply } = asked else {
+    let RequestRef::Update { update, noreply } = asked else {
         return Ok(false);
     };
     let Update::Store {
@@ -102,9 +102,9 @@ fn kept_store(
     flags: u32,
     exptime: i64,
     noreply: bool,
-) -> Result<Taken, SessionError>
+) -> Result<Parsed, SessionError>
     requires { is_key key.now ≡ true }
-    ensures { IfOk result (λ kept. kept ≡ Taken.Whole (Request.Update (Update.Store mode compare key.now flags exptime []) noreply)) }
+    ensures { IfOk result (λ kept. kept ≡ Parsed.Whole (Request.Update (Update.Store mode compare key.now flags exptime []) noreply)) }
 {
     let update = Update::Store {
         mode,
@@ -114,7 +114,7 @@ fn kept_store(
         exptime,
         block: Block::new(alloc),
     };
-    Ok(Taken::Whole(Request::Update { update, noreply }))
+    Ok(Parsed::Whole(Request::Update { update, noreply }))
 }
 
 /// Takes all the memory that a storage command needs: for its immediate outcome, for its place among the unanswered requests, and

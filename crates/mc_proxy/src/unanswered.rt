@@ -4,14 +4,14 @@ ghost use Rattle.mc_proxy.specs.Emits.{awaited_in, count_awaited};
 
 use crate::session_errors::SessionError;
 use mc_reply::write_fault;
-use mc_request::Taken;
+use mc_request::Parsed;
 use mc_route::{Losses, Outcome, hides_loss, join_with};
 use std::marker::Model;
 
 /// A request or fault that was taken, and the outcomes of its commands so far.
 #[derive(Drop)]
 pub struct Unanswered {
-    what: Taken,
+    what: Parsed,
     /// The choice for its lost commands.
     losses: Losses,
     outcomes: Vec<Outcome>,
@@ -33,11 +33,11 @@ impl Model for Unanswered {
 
 impl Unanswered {
     ghost use Rattle.mc_proxy.specs.Emits.{answer_of_one, hides_loss_of, is_known};
-    ghost use Rattle.mc_proxy.specs.SessionNoting.{with_outcome};
+    ghost use Rattle.mc_proxy.specs.SessionNoting.{set_outcome};
 
     /// Makes the entry of a request or fault that was just taken: the choice for its lost commands, and the immediate
     /// outcomes of its commands.
-    pub fn new(what: Taken, losses: Losses, outcomes: Vec<Outcome>) -> Unanswered
+    pub fn new(what: Parsed, losses: Losses, outcomes: Vec<Outcome>) -> Unanswered
         ensures { result ≡ record { what = what; losses = losses; outcomes = outcomes.items } }
     {
         let awaited = awaited_in(outcomes.as_slice());
@@ -62,14 +62,14 @@ impl Unanswered {
         ensures { result ≡ hides_loss_of self.now }
     {
         match &self.what {
-            Taken::Whole(request) => hides_loss(self.losses, request, self.outcomes.as_slice()),
-            Taken::Faulty(_) => false,
+            Parsed::Whole(request) => hides_loss(self.losses, request, self.outcomes.as_slice()),
+            Parsed::Faulty(_) => false,
         }
     }
 
     /// Records the outcome of a command, by its number. If there is no command of this number, the outcome is dropped.
     pub fn note(&mut self, at: usize, outcome: Outcome)
-        ensures { self.new ≡ record self.old { outcomes = with_outcome at outcome self.old.outcomes } }
+        ensures { self.new ≡ record self.old { outcomes = set_outcome at outcome self.old.outcomes } }
     {
         if at >= self.outcomes.len() {
             return;
@@ -85,10 +85,10 @@ impl Unanswered {
         ensures err { OnErr result (out.new.items ≡ out.old.items) }
     {
         match &self.what {
-            Taken::Whole(request) => {
+            Parsed::Whole(request) => {
                 join_with(self.losses, request, self.outcomes.as_slice(), out)?;
             },
-            Taken::Faulty(fault) => write_fault(*fault, out)?,
+            Parsed::Faulty(fault) => write_fault(*fault, out)?,
         }
         Ok(())
     }

@@ -4,7 +4,7 @@ use Rattle.std.specs.Prelude.{IsTrue}
 use Rattle.std.proofs.lemmas.Bool.Decides.{nat_tests}
 use Rattle.std.proofs.lemmas.List.{length_push}
 use Rattle.std.specs.Io.KnownBytes.{Appends}
-use Rattle.mc_request.specs.declared.parts.Taken.{Taken}
+use Rattle.mc_request.specs.declared.parts.Parsed.{Parsed}
 use Rattle.mc_request_reader.specs.Reader.{ReaderState, rest_of}
 use Rattle.mc_ring.specs.Rings.{RingState}
 use Rattle.mc_route.specs.declared.losses.Losses.{Losses}
@@ -35,10 +35,10 @@ stretch_turned number turn old new missed steps =
     stretch_one number (Turned turn) old new missed steps (is_open (session_at new number) steps.after (steps_at number old new (IsTurn number turn old.ring old.losses) steps))
 
 -- a request that is taken is one fewer to take, and one more to answer
-took_less : (number : ℕ) (ring : RingState) (losses : Losses) (links now : List LinkState) (before after : SessionState) (what : Taken)
+took_less : (number : ℕ) (ring : RingState) (losses : Losses) (links now : List LinkState) (before after : SessionState) (what : Parsed)
     → Takes number ring losses links now before after what → work_of (Some after) < work_of (Some before)
 took_less number ring losses links now before after what takes =
-    let fewer : length (rest_of before.reader []) ≡ suc (length (rest_of after.reader [])) = ap (λ (ts : List Taken). length ts) (takes.first.rest []) in
+    let fewer : length (rest_of before.reader []) ≡ suc (length (rest_of after.reader [])) = ap (λ (ts : List Parsed). length ts) (takes.first.rest []) in
     let more : length after.unanswered ≡ length before.unanswered + 1 =
     ap (λ (us : List Unanswered). length us) takes.unanswered ∙ length_push before.unanswered _ in
     omega (arith, fewer, more)

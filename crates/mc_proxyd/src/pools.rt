@@ -216,7 +216,7 @@ impl Upstreams {
         let kept = if is_used { KEPT_ROOM } else { 0 };
         let mut unsent = false;
         for place in 0..self.upstreams.len() {
-            proxy.link_give_back(place, kept);
+            proxy.link_shrink_if_idle(place, kept);
             unsent |= !proxy.link_output(place).is_empty();
         }
         unsent

@@ -1,7 +1,7 @@
 //! Serving a listener.
 
-use crate::hosts::ProxyLoop;
 use crate::lookups::Lookups;
+use crate::proxy_loops::ProxyLoop;
 use crate::resolving::begin_lookups;
 use crate::settings::ProxySettings;
 use mc_net::{Operators, Stopwatch, serve_rounds};

@@ -1,7 +1,7 @@
 -- A server that is as a history leaves it, after a stretch.
 use Rattle.std.proofs.Common.{◌≡◌, ◌≢◌, ◌∙◌, ℕ, ◌==◌, false, List, [], ◌∷◌, ◌++◌, refl, sym, ap, subst, append_assoc}
 use Rattle.std.proofs.lemmas.List.{append-nil}
-use Rattle.mc_request.specs.declared.parts.Taken.{Taken}
+use Rattle.mc_request.specs.declared.parts.Parsed.{Parsed}
 use Rattle.mc_request.specs.Requests.{requests_of}
 use Rattle.mc_request_reader.specs.Reader.{rest_of}
 use Rattle.mc_cache.specs.CacheState.{CacheState}
@@ -28,7 +28,7 @@ none_answered number moment other s (e ∷ es) differ own =
 
 same_for_others : (opening : CacheState) (number moment other : ℕ) (history es : List ServedRequest) → number ≢ other → AreOwn number moment es → SameFor opening other history (history ++ es)
 same_for_others opening number moment other history es differ own = (
-  taken-append other history es ∙ ap (λ (ts : List Taken). taken_of other history ++ ts) (none_taken number moment other es differ own) ∙ append-nil (taken_of other history),
+  taken-append other history es ∙ ap (λ (ts : List Parsed). taken_of other history ++ ts) (none_taken number moment other es differ own) ∙ append-nil (taken_of other history),
   answers-append other opening history es ∙ ap (λ (bytes : List ℕ). answers_to other opening history ++ bytes) (none_answered number moment other (replayed opening history) es differ own)
       ∙ append-nil (answers_to other opening history),
 )
@@ -47,9 +47,9 @@ holds_after opening number moment text history sent old new came went stretch re
     let more = stretch.history in
     record {
       rest = λ yet.
-          ap (λ (ts : List Taken). ts ++ rest_of stretch.after.reader yet) (taken-append number history stretch.history)
+          ap (λ (ts : List Parsed). ts ++ rest_of stretch.after.reader yet) (taken-append number history stretch.history)
           ∙ append_assoc (taken_of number history) (taken_of number stretch.history) (rest_of stretch.after.reader yet)
-          ∙ ap (λ (ts : List Taken). taken_of number history ++ ts) (sym (stretch.rest yet))
+          ∙ ap (λ (ts : List Parsed). taken_of number history ++ ts) (sym (stretch.rest yet))
           ∙ h.rest (came ++ yet)
           ∙ ap requests_of (sym (append_assoc text came yet));
       answered =

@@ -1,7 +1,7 @@
 -- Stretches of a connection: none, by one call of the server, and in sequence.
 use Rattle.std.proofs.Common.{◌≡◌, ◌∙◌, ℕ, ◌==◌, ◌<◌, ◌≤◌, true, false, if◌then◌else◌, List, [], ◌∷◌, ◌++◌, length, take, drop, Option, Some, refl, sym, ap, subst, append_assoc, arith}
 use Rattle.std.proofs.lemmas.List.{append-nil, take-append-drop}
-use Rattle.mc_request.specs.declared.parts.Taken.{Taken}
+use Rattle.mc_request.specs.declared.parts.Parsed.{Parsed}
 use Rattle.mc_request_reader.specs.Reader.{rest_of}
 use Rattle.mc_cache.specs.CacheState.{CacheState}
 use Rattle.mc_server.specs.Served.{ServedRequest, answer_after}
@@ -209,9 +209,9 @@ past number moment a b c came more went yet h k same =
           ap (λ (bytes : List ℕ). rest_of h.before.reader bytes) (append_assoc came more text)
           ∙ h.rest (more ++ text)
           ∙ ap (λ (x : ConnectionState). taken_of number h.history ++ rest_of x.reader (more ++ text)) same
-          ∙ ap (λ (ts : List Taken). taken_of number h.history ++ ts) (k.rest text)
+          ∙ ap (λ (ts : List Parsed). taken_of number h.history ++ ts) (k.rest text)
           ∙ sym (append_assoc (taken_of number h.history) (taken_of number k.history) (rest_of k.after.reader text))
-          ∙ ap (λ (ts : List Taken). ts ++ rest_of k.after.reader text) (sym (taken-append number h.history k.history));
+          ∙ ap (λ (ts : List Parsed). ts ++ rest_of k.after.reader text) (sym (taken-append number h.history k.history));
       answered =
           append_assoc went yet k.after.output
           ∙ ap (λ (bytes : List ℕ). went ++ bytes) (k.answered ∙ ap (λ (bytes : List ℕ). bytes ++ answers_to number b.cache k.history) (sym middle))

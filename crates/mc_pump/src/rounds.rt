@@ -10,7 +10,7 @@ use crate::limits::UNSENT_MARK;
 use crate::watches::Watch;
 use mc_server::{Limited, Server, Turn};
 use mc_store::Store;
-use mc_stream::{Pumped, read_once, told, write_once};
+use mc_stream::{Pumped, read_once, read_result, write_once};
 use std::io::{Read, Write};
 
 /// Why the turns of a round stopped.
@@ -225,7 +225,7 @@ fn receive_apart<S: Store + Drop, R: Read>(
     ensures unwatched { IfNone result (watch.new ≡ watch.old) }
 {
     let read = server.read_from(number, reader)?;
-    let side = told(read, ended);
+    let side = read_result(read, ended);
     watch.tally.came(count_of(&side));
     Some(moved_by(side, *ended))
 }

@@ -25,12 +25,12 @@ use Rattle.mc_reply.specs.declared.replies.Shown.{Shown}
 use Rattle.mc_reply.specs.declared.replies.Reply.{Reply}
 use Rattle.mc_reply.specs.declared.replies.Reply.TheVariants.{NotFound, Number, Meta, Fault}
 use Rattle.mc_cache.specs.Settling.{is_dead_at}
-use Rattle.mc_cache.specs.Showing.{shown_of, told}
+use Rattle.mc_cache.specs.Showing.{meta_reply_of, shown_of}
 use Rattle.mc_cache.specs.Step.{compared, expiry_by, counted}
 use Rattle.mc_cache_laws.specs.OneMap.{KeyOutcome}
 use Rattle.mc_registers.specs.Registers.{Given, unless, number_as, count_as, update_as, register_step, Done, turn, last_by, IsRun}
 use Rattle.mc_registers.specs.Guarantees.{is_done, has_written, may_have_written, update_in, IsSteadyRun, IsCountOrQuiet, AreCountsOrQuiet, IsCountOrUnwritten, AreCountsOrUnwritten, ShowsCount, number_by, IsCounted, AreCounted, CountersCount, CountersCountWhileHeld}
-use Rattle.mc_registers.proofs.LeftLemmas.{IsKept, IsLeft, IsUndone, compared-undone, number_body, told-done}
+use Rattle.mc_registers.proofs.LeftLemmas.{IsKept, IsLeft, IsUndone, compared-undone, meta_reply_of-done, number_body}
 use Rattle.mc_registers.proofs.GuaranteeLemmas.{quiet-left, quiet-unwritten, run-part, unwritten-turn}
 
 -- the stored item, if there is one, is this number; and there is one, and it is this number
@@ -116,15 +116,16 @@ counted-shown : (number : ℕ) (key : List ℕ) (counting : Counting) (show : Sh
 counted-shown number key counting show shown true = refl
 counted-shown number key counting show shown false = tt
 
-told-number-goes : (given : Given) (key : List ℕ) (body : Body) (counting : Counting) (show : Show) (moment flags : ℕ) (expiry : Deadline) (number : ℕ) → number < 2 ^ 64
+meta_reply_of-number-goes : (given : Given) (key : List ℕ) (body : Body) (counting : Counting) (show : Show) (moment flags : ℕ) (expiry : Deadline) (number : ℕ) → number < 2 ^ 64
     → read_u64 body.value ≡ Some number → let o : KeyOutcome = number_as given (Some body) flags expiry (counted counting.direction counting.delta number) in
-    GoesOn IsHeldNumber number (atoms.Meta (metas.Update (Count key counting) show)) (told show moment Plain o.0 o.1) o.0
-told-number-goes (Ok n) key body counting show moment flags expiry number small reads =
+    GoesOn IsHeldNumber number (atoms.Meta (metas.Update (Count key counting) show)) (meta_reply_of show moment Plain o.0 o.1) o.0
+meta_reply_of-number-goes (Ok n) key body counting show moment flags expiry number small reads =
     let reached : ℕ = counted counting.direction counting.delta number in
     let next : reached < 2 ^ 64 = counted-small counting.direction counting.delta number small in
     let shown : Shown = shown_of show moment Plain (record (number_body flags expiry reached) { cas = n }) in
     record { counted_is = counted-shown number key counting show shown show.value; number_is = read_u64-decimal reached next; small = next }
-told-number-goes (Err fault) key body counting show moment flags expiry number small reads = record { counted_is = tt; number_is = reads; small = small }
+meta_reply_of-number-goes (Err fault) key body counting show moment flags expiry number small reads =
+    record { counted_is = tt; number_is = reads; small = small }
 
 -- what holds of a count of a stored number, by what it does
 count-does : (Does : KeyOutcome → Type 0) (given : Given) (body : Body) (counting : Counting) (moment number : ℕ) → read_u64 body.value ≡ Some number
@@ -147,14 +148,14 @@ count-goes given body key counting moment number small reads =
     (λ reply undone. unwritten-goes IsHeldNumber number atom reply (Some body) undone reads small)
     (λ flags expiry. number-goes given key body counting flags expiry number small reads)
 
-told-count-goes : (given : Given) (body : Body) (key : List ℕ) (counting : Counting) (show : Show) (moment number : ℕ) → number < 2 ^ 64 → read_u64 body.value ≡ Some number
+meta_reply_of-count-goes : (given : Given) (body : Body) (key : List ℕ) (counting : Counting) (show : Show) (moment number : ℕ) → number < 2 ^ 64 → read_u64 body.value ≡ Some number
     → let o : KeyOutcome = count_as given (Some body) counting moment in
-    GoesOn IsHeldNumber number (atoms.Meta (metas.Update (Count key counting) show)) (told show moment Plain o.0 o.1) o.0
-told-count-goes given body key counting show moment number small reads =
+    GoesOn IsHeldNumber number (atoms.Meta (metas.Update (Count key counting) show)) (meta_reply_of show moment Plain o.0 o.1) o.0
+meta_reply_of-count-goes given body key counting show moment number small reads =
     let atom : Atom (List ℕ) = atoms.Meta (metas.Update (Count key counting) show) in
-    count-does (λ (o : KeyOutcome). GoesOn IsHeldNumber number atom (told show moment Plain o.0 o.1) o.0) given body counting moment number reads
-    (λ reply undone. unwritten-goes IsHeldNumber number atom (told show moment Plain (Some body) reply) (Some body) (told-done show moment Plain (Some body) reply ∙ undone) reads small)
-    (λ flags expiry. told-number-goes given key body counting show moment flags expiry number small reads)
+    count-does (λ (o : KeyOutcome). GoesOn IsHeldNumber number atom (meta_reply_of show moment Plain o.0 o.1) o.0) given body counting moment number reads
+    (λ reply undone. unwritten-goes IsHeldNumber number atom (meta_reply_of show moment Plain (Some body) reply) (Some body) (meta_reply_of-done show moment Plain (Some body) reply ∙ undone) reads small)
+    (λ flags expiry. meta_reply_of-number-goes given key body counting show moment flags expiry number small reads)
 
 -- a command that counts, of a stored number, and of a missing key
 held-step-goes : (given : Given) (body : Body) (atom : Atom (List ℕ)) (key : List ℕ) (counting : Counting) (moment number : ℕ) → number < 2 ^ 64 → read_u64 body.value ≡ Some number
@@ -168,8 +169,8 @@ held-step-goes given body (atoms.Update update) key counting moment number small
 held-step-goes given body (atoms.Meta (metas.Update update show)) key counting moment number small reads counts =
     let its : update ≡ Count key counting = cc in
     subst (λ (u : Update (List ℕ) (List ℕ)). let o : KeyOutcome = update_as given (Some body) u moment in
-    GoesOn IsHeldNumber number (atoms.Meta (metas.Update u show)) (told show moment Plain o.0 o.1) o.0) (sym its)
-    (told-count-goes given body key counting show moment number small reads)
+    GoesOn IsHeldNumber number (atoms.Meta (metas.Update u show)) (meta_reply_of show moment Plain o.0 o.1) o.0) (sym its)
+    (meta_reply_of-count-goes given body key counting show moment number small reads)
 
 none-step-goes : (given : Given) (atom : Atom (List ℕ)) (key : List ℕ) (counting : Counting) (moment number : ℕ) → number < 2 ^ 64 → update_in atom ≡ Some (Count key counting)
     → counting.create ≡ None → let o : KeyOutcome = register_step given None atom moment in GoesOn IsNumber number atom o.1 o.0
@@ -184,10 +185,10 @@ none-step-goes given (atoms.Update update) key counting moment number small coun
 none-step-goes given (atoms.Meta (metas.Update update show)) key counting moment number small counts makes =
     let its : update ≡ Count key counting = cc in
     subst (λ (u : Update (List ℕ) (List ℕ)). let o : KeyOutcome = update_as given None u moment in
-    GoesOn IsNumber number (atoms.Meta (metas.Update u show)) (told show moment Plain o.0 o.1) o.0) (sym its)
+    GoesOn IsNumber number (atoms.Meta (metas.Update u show)) (meta_reply_of show moment Plain o.0 o.1) o.0) (sym its)
     (subst (λ (c : Option Creation).
     let o : KeyOutcome = option_map_or (λ creation. number_as given None 0 (deadline_of creation.exptime moment) creation.initial) c (None, NotFound) in
-    GoesOn IsNumber number (atoms.Meta (metas.Update (Count key counting) show)) (told show moment Plain o.0 o.1) o.0) (sym makes)
+    GoesOn IsNumber number (atoms.Meta (metas.Update (Count key counting) show)) (meta_reply_of show moment Plain o.0 o.1) o.0) (sym makes)
     (record { counted_is = tt; number_is = tt; small = small }))
 
 step-goes : (given : Given) (held : Option Body) (atom : Atom (List ℕ)) (key : List ℕ) (counting : Counting) (moment number : ℕ) → number < 2 ^ 64 → IsNumber number held
@@ -257,10 +258,10 @@ shown-number : (shown : Shown) (asked : Bool) (n number : ℕ) → number < 2 ^ 
 shown-number shown true n number small shows = ap (λ v. read_u64 v) shows ∙ read_u64-decimal number small
 shown-number shown false n number small shows = absurd shows
 
-told-number-put : (given : Given) (held : Option Body) (flags : ℕ) (expiry : Deadline) (n number : ℕ) (show : Show) (moment : ℕ) → number < 2 ^ 64
-    → let o : KeyOutcome = number_as given held flags expiry n in ShowsCount (told show moment Plain o.0 o.1) number → IsHeldNumber number o.0
-told-number-put (Err fault) held flags expiry n number show moment small shows = absurd shows
-told-number-put (Ok given) held flags expiry n number show moment small shows =
+meta_reply_of-number-put : (given : Given) (held : Option Body) (flags : ℕ) (expiry : Deadline) (n number : ℕ) (show : Show) (moment : ℕ) → number < 2 ^ 64
+    → let o : KeyOutcome = number_as given held flags expiry n in ShowsCount (meta_reply_of show moment Plain o.0 o.1) number → IsHeldNumber number o.0
+meta_reply_of-number-put (Err fault) held flags expiry n number show moment small shows = absurd shows
+meta_reply_of-number-put (Ok given) held flags expiry n number show moment small shows =
     shown-number (shown_of show moment Plain (record (number_body flags expiry n) { cas = given })) show.value n number small shows
 
 -- a count, by how its reply is shown
@@ -297,11 +298,11 @@ step-number given held (atoms.Update update) key counting moment number small co
     stores shows
 step-number given held (atoms.Meta (metas.Update update show)) key counting moment number small counts shows =
     let its : update ≡ Count key counting = cc in
-    let tell : KeyOutcome → Reply (List ℕ) = λ o. told show moment Plain o.0 o.1 in
+    let tell : KeyOutcome → Reply (List ℕ) = λ o. meta_reply_of show moment Plain o.0 o.1 in
     let stores : ShowsCount (tell (update_as given held update moment)) number → IsHeldNumber number (update_as given held update moment).0 =
     subst (λ (u : Update (List ℕ) (List ℕ)). ShowsCount (tell (update_as given held u moment)) number → IsHeldNumber number (update_as given held u moment).0) (sym its)
-    (count-number tell given held counting moment number (λ o. told-done show moment Plain o.0 o.1)
-    (λ found flags expiry n. told-number-put given found flags expiry n number show moment small)) in
+    (count-number tell given held counting moment number (λ o. meta_reply_of-done show moment Plain o.0 o.1)
+    (λ found flags expiry n. meta_reply_of-number-put given found flags expiry n number show moment small)) in
     stores shows
 
 pub counters_count : (last : ℕ) (held : Option Body) → CountersCount last held

@@ -23,7 +23,7 @@ use Rattle.mc_cache.specs.Step.{Content, numbered, compared, unmet, unstored, co
 use Rattle.mc_cache_laws.specs.OneMap.{KeyOutcome}
 use Rattle.mc_registers.specs.Registers.{Given, put_as, unless, store_as, get_as, number_as, update_as, register_step, Done, turn, may_give, last_by, IsRun}
 use Rattle.mc_registers.specs.Guarantees.{is_done, has_written, may_have_written, HaveNotWritten, AreQuiet, update_in, is_whole, IsSteadyRun, AddsExclude, number_needed, OldNumbersDoNotFit, CasLosesNothingAcross}
-use Rattle.mc_registers.proofs.LeftLemmas.{IsSame, IsKept, IsLeft, kept-left, left-same, left-both, left-found, IsFresh, IsUndone, compared-undone, unstored-undone, update-leaves, looked-same, told-done, step-leaves}
+use Rattle.mc_registers.proofs.LeftLemmas.{IsSame, IsKept, IsLeft, kept-left, left-same, left-both, left-found, IsFresh, IsUndone, compared-undone, unstored-undone, update-leaves, looked-same, meta_reply_of-done, step-leaves}
 
 -- a turn leaves the item that was stored, or none, or a fresh one
 pub turn-leaves : (forgotten : Bool) (given : Given) (held : Option Body) (e : Done) → e.reply ≡ (turn forgotten given held e).1
@@ -154,7 +154,7 @@ update-stored given held (atoms.Update update) moment mode compare key flags exp
 update-stored given held (atoms.Meta (metas.Update update show)) moment mode compare key flags exptime value is done =
     let its : update ≡ Store mode compare key flags exptime value = cc in
     let o : KeyOutcome = update_as given held update moment in
-    let undone : is_done o.1 ≡ true = sym (told-done show moment Plain o.0 o.1) ∙ done in
+    let undone : is_done o.1 ≡ true = sym (meta_reply_of-done show moment Plain o.0 o.1) ∙ done in
     let stored : is_done (update_as given held (Store mode compare key flags exptime value) moment).1 ≡ true =
     subst (λ (u : Update (List ℕ) (List ℕ)). is_done (update_as given held u moment).1 ≡ true) its undone in
     let new : Content = record { flags = flags; expiry = deadline_of exptime moment; won = false; value = value } in
@@ -219,7 +219,7 @@ held-kept given body (atoms.Meta (metas.Update update show)) moment none =
     let o : KeyOutcome = update_as given (Some body) update moment in
     elim (update-leaves given (Some body) update moment) [
       | inl kept ↦ kept.0
-      | inr fresh ↦ absurd (true≢false (sym fresh.1 ∙ sym (told-done show moment Plain o.0 o.1) ∙ none))
+      | inr fresh ↦ absurd (true≢false (sym fresh.1 ∙ sym (meta_reply_of-done show moment Plain o.0 o.1) ∙ none))
     ]
 
 pub unwritten-turn : (given : Given) (body : Body) (e : Done) → is_dead_at (Some body) e.moment ≡ false → e.reply ≡ (turn false given (Some body) e).1
@@ -367,7 +367,7 @@ step-needs given held (atoms.Update own) moment update number is needs done =
 step-needs given held (atoms.Meta (metas.Update own show)) moment update number is needs done =
     let its : own ≡ update = cc in
     let o : KeyOutcome = update_as given held own moment in
-    update-needs given held own moment number (ap (λ (u : Update (List ℕ) (List ℕ)). number_needed u) its ∙ needs) (sym (told-done show moment Plain o.0 o.1) ∙ done)
+    update-needs given held own moment number (ap (λ (u : Update (List ℕ) (List ℕ)). number_needed u) its ∙ needs) (sym (meta_reply_of-done show moment Plain o.0 o.1) ∙ done)
 
 past-compares : (number last : ℕ) (held : Option Body) (body : Body) → IsPast number last held → held ≡ Some body → body.cas ≡ number → ⊥
 past-compares number last held body past is same =

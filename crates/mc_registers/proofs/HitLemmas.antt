@@ -17,12 +17,12 @@ use Rattle.mc_reply.specs.declared.replies.Marks.TheVariants.{Plain}
 use Rattle.mc_reply.specs.declared.replies.Reply.{Reply}
 use Rattle.mc_reply.specs.declared.replies.Reply.TheVariants.{Stored, NotStored, Exists, NotFound, Deleted, Touched, Flushed, Number, Miss, Hit, Meta, Fault}
 use Rattle.mc_cache.specs.Settling.{is_dead_at}
-use Rattle.mc_cache.specs.Showing.{told}
+use Rattle.mc_cache.specs.Showing.{meta_reply_of}
 use Rattle.mc_cache.specs.Step.{Content, numbered, compared, unmet, unstored, content_by}
 use Rattle.mc_cache_laws.specs.OneMap.{KeyOutcome}
 use Rattle.mc_registers.specs.Registers.{Given, put_as, unless, store_as, update_as, register_step, Done, turn, last_by, IsRun}
 use Rattle.mc_registers.specs.Guarantees.{AreQuiet, IsSteadyRun, is_done, update_in}
-use Rattle.mc_registers.proofs.LeftLemmas.{IsLeft, told-done}
+use Rattle.mc_registers.proofs.LeftLemmas.{IsLeft, meta_reply_of-done}
 use Rattle.mc_registers.proofs.GuaranteeLemmas.{IsPast, cas-past, quiet-run, read-shows, run-part}
 
 -- nothing is stored at first: before a hit a command may have written
@@ -88,52 +88,53 @@ or-refused None second a b = b
 or-refused (Some reply) second a b = a
 
 -- a store is done, or its reply says why it is not
-abbrev IsToldOf : Reply (List ℕ) → Type 0
-IsToldOf reply = (is_done reply ≡ true) ⊎ (is_refused reply ≡ true)
+abbrev IsDoneOrRefused : Reply (List ℕ) → Type 0
+IsDoneOrRefused reply = (is_done reply ≡ true) ⊎ (is_refused reply ≡ true)
 
-store-told : (given : Given) (held : Option Body) (compare : Option ℕ) (mode : StoreMode) (new : Content) → IsToldOf (store_as given held compare mode new).1
+store-told : (given : Given) (held : Option Body) (compare : Option ℕ) (mode : StoreMode) (new : Content)
+    → IsDoneOrRefused (store_as given held compare mode new).1
 store-told given held compare mode new =
     go (unstored compare mode held) (or-refused (compared compare held) (unmet mode held) (compared-refused compare held) (unmet-refused mode held)) given
   where
     go : (answer : Option (Reply (List ℕ))) → IsRefusal answer → (given : Given)
-        → IsToldOf (unless held answer (put_as given held (numbered (content_by mode held new) 0) Stored)).1
+        → IsDoneOrRefused (unless held answer (put_as given held (numbered (content_by mode held new) 0) Stored)).1
     go (Some reply) refused given = inr refused
     go None refused (Ok number) = inl refl
     go None refused (Err fault) = inr refl
 
 -- the reply to a meta command says so too
-told-refused : (show : Show) (moment : ℕ) (marks : Marks) (held : Option Body) (reply : Reply (List ℕ)) → is_refused (told show moment marks held reply) ≡ is_refused reply
-told-refused show moment marks None Stored = refl
-told-refused show moment marks (Some body) Stored = refl
-told-refused show moment marks None (Number number) = refl
-told-refused show moment marks (Some body) (Number number) = refl
-told-refused show moment marks held Deleted = refl
-told-refused show moment marks held NotStored = refl
-told-refused show moment marks held Exists = refl
-told-refused show moment marks held NotFound = refl
-told-refused show moment marks held Touched = refl
-told-refused show moment marks held Flushed = refl
-told-refused show moment marks held Miss = refl
-told-refused show moment marks held (Hit flags cas value) = refl
-told-refused show moment marks held (Meta shown value) = refl
-told-refused show moment marks held (Fault fault) = refl
+meta_reply_of-refused : (show : Show) (moment : ℕ) (marks : Marks) (held : Option Body) (reply : Reply (List ℕ)) → is_refused (meta_reply_of show moment marks held reply) ≡ is_refused reply
+meta_reply_of-refused show moment marks None Stored = refl
+meta_reply_of-refused show moment marks (Some body) Stored = refl
+meta_reply_of-refused show moment marks None (Number number) = refl
+meta_reply_of-refused show moment marks (Some body) (Number number) = refl
+meta_reply_of-refused show moment marks held Deleted = refl
+meta_reply_of-refused show moment marks held NotStored = refl
+meta_reply_of-refused show moment marks held Exists = refl
+meta_reply_of-refused show moment marks held NotFound = refl
+meta_reply_of-refused show moment marks held Touched = refl
+meta_reply_of-refused show moment marks held Flushed = refl
+meta_reply_of-refused show moment marks held Miss = refl
+meta_reply_of-refused show moment marks held (Hit flags cas value) = refl
+meta_reply_of-refused show moment marks held (Meta shown value) = refl
+meta_reply_of-refused show moment marks held (Fault fault) = refl
 
 step-told : (given : Given) (held : Option Body) (atom : Atom (List ℕ)) (moment : ℕ) (mode : StoreMode) (compare : Option ℕ) (key : List ℕ) (flags : ℕ) (exptime : ℤ) (value : List ℕ)
-    → update_in atom ≡ Some (Store mode compare key flags exptime value) → IsToldOf (register_step given held atom moment).1
+    → update_in atom ≡ Some (Store mode compare key flags exptime value) → IsDoneOrRefused (register_step given held atom moment).1
 step-told given held (atoms.Get at touch with_cas) moment mode compare key flags exptime value is = absurd cc
 step-told given held (atoms.Meta (metas.Get at get)) moment mode compare key flags exptime value is = absurd cc
 step-told given held (atoms.Update update) moment mode compare key flags exptime value is =
     let its : update ≡ Store mode compare key flags exptime value = cc in
-    subst (λ (u : Update (List ℕ) (List ℕ)). IsToldOf (update_as given held u moment).1) (sym its)
+    subst (λ (u : Update (List ℕ) (List ℕ)). IsDoneOrRefused (update_as given held u moment).1) (sym its)
     (store-told given held compare mode (record { flags = flags; expiry = deadline_of exptime moment; won = false; value = value }))
 step-told given held (atoms.Meta (metas.Update update show)) moment mode compare key flags exptime value is =
     let its : update ≡ Store mode compare key flags exptime value = cc in
     let o : KeyOutcome = update_as given held update moment in
-    let same : IsToldOf o.1 = subst (λ (u : Update (List ℕ) (List ℕ)). IsToldOf (update_as given held u moment).1) (sym its)
+    let same : IsDoneOrRefused o.1 = subst (λ (u : Update (List ℕ) (List ℕ)). IsDoneOrRefused (update_as given held u moment).1) (sym its)
     (store-told given held compare mode (record { flags = flags; expiry = deadline_of exptime moment; won = false; value = value })) in
     elim same [
-      | inl done ↦ inl (told-done show moment Plain o.0 o.1 ∙ done)
-      | inr refused ↦ inr (told-refused show moment Plain o.0 o.1 ∙ refused)
+      | inl done ↦ inl (meta_reply_of-done show moment Plain o.0 o.1 ∙ done)
+      | inr refused ↦ inr (meta_reply_of-refused show moment Plain o.0 o.1 ∙ refused)
     ]
 
 pub run-told : (front back : List Done) (e : Done) (last : ℕ) (held : Option Body) (mode : StoreMode) (compare : Option ℕ) (key : List ℕ) (flags : ℕ) (exptime : ℤ) (value : List ℕ)
@@ -142,13 +143,13 @@ run-told front back e last held mode compare key flags exptime value run is =
     let part = run-part front last held (e ∷ back) run in
     let r = part.2 in
     let gone : Bool = r.0 || is_dead_at part.1 e.moment in
-    subst (λ (reply : Reply (List ℕ)). IsToldOf reply) (sym r.3)
+    subst (λ (reply : Reply (List ℕ)). IsDoneOrRefused reply) (sym r.3)
     (step-told r.1 (cond gone None part.1) e.atom e.moment mode compare key flags exptime value is)
 
 pub steady-told : (front : List Done) (e : Done) (last : ℕ) (held : Option Body) (mode : StoreMode) (compare : Option ℕ) (key : List ℕ) (flags : ℕ) (exptime : ℤ) (value : List ℕ)
     → IsSteadyRun last held (front ++ e ∷ []) → update_in e.atom ≡ Some (Store mode compare key flags exptime value) → (is_done e.reply ≡ true) ⊎ (is_refused e.reply ≡ true)
 steady-told [] e last held mode compare key flags exptime value run is =
-    subst (λ (reply : Reply (List ℕ)). IsToldOf reply) (sym run.2)
+    subst (λ (reply : Reply (List ℕ)). IsDoneOrRefused reply) (sym run.2)
     (step-told run.0 (cond (false || is_dead_at held e.moment) None held) e.atom e.moment mode compare key flags exptime value is)
 steady-told (d ∷ front) e last held mode compare key flags exptime value run is =
     steady-told front e (last_by last (turn false run.0 held d).0) (turn false run.0 held d).0 mode compare key flags exptime value run.3 is

@@ -23,9 +23,9 @@ use Rattle.mc_reply.specs.declared.replies.Marks.{Marks}
 use Rattle.mc_reply.specs.declared.replies.Marks.TheVariants.{Plain, Won}
 use Rattle.mc_reply.specs.declared.replies.Reply.{Reply}
 use Rattle.mc_reply.specs.declared.replies.Reply.TheVariants.{Stored, NotStored, Exists, NotFound, Deleted, Touched, Flushed, Number, Miss, Hit, Meta, Fault}
-use Rattle.mc_cache.specs.Showing.{needs_filling, told}
+use Rattle.mc_cache.specs.Showing.{meta_reply_of, needs_filling}
 use Rattle.mc_cache.specs.Step.{Content, numbered, compared, unmet, unstored, content_by, expiry_by, counted, made_by, looked_at}
-use Rattle.mc_cache_laws.specs.OneMap.{KeyOutcome, touch_key, told_key}
+use Rattle.mc_cache_laws.specs.OneMap.{KeyOutcome, touch_key, as_meta}
 use Rattle.mc_registers.specs.Registers.{Given, put_as, unless, delete_as, number_as, count_as, update_as, register_step}
 use Rattle.mc_registers.specs.Guarantees.{is_done, has_written, may_have_written}
 
@@ -175,21 +175,21 @@ update-leaves given held (Count key counting) moment = count-leaves given held c
 update-leaves given held (FlushAll delay) moment = stays given held Flushed refl
 
 -- the reply to a meta command says that it was done if its update was
-pub told-done : (show : Show) (moment : ℕ) (marks : Marks) (held : Option Body) (reply : Reply (List ℕ)) → is_done (told show moment marks held reply) ≡ is_done reply
-told-done show moment marks None Stored = refl
-told-done show moment marks (Some body) Stored = refl
-told-done show moment marks None (Number number) = refl
-told-done show moment marks (Some body) (Number number) = refl
-told-done show moment marks held Deleted = refl
-told-done show moment marks held NotStored = refl
-told-done show moment marks held Exists = refl
-told-done show moment marks held NotFound = refl
-told-done show moment marks held Touched = refl
-told-done show moment marks held Flushed = refl
-told-done show moment marks held Miss = refl
-told-done show moment marks held (Hit flags cas value) = refl
-told-done show moment marks held (Meta shown value) = refl
-told-done show moment marks held (Fault fault) = refl
+pub meta_reply_of-done : (show : Show) (moment : ℕ) (marks : Marks) (held : Option Body) (reply : Reply (List ℕ)) → is_done (meta_reply_of show moment marks held reply) ≡ is_done reply
+meta_reply_of-done show moment marks None Stored = refl
+meta_reply_of-done show moment marks (Some body) Stored = refl
+meta_reply_of-done show moment marks None (Number number) = refl
+meta_reply_of-done show moment marks (Some body) (Number number) = refl
+meta_reply_of-done show moment marks held Deleted = refl
+meta_reply_of-done show moment marks held NotStored = refl
+meta_reply_of-done show moment marks held Exists = refl
+meta_reply_of-done show moment marks held NotFound = refl
+meta_reply_of-done show moment marks held Touched = refl
+meta_reply_of-done show moment marks held Flushed = refl
+meta_reply_of-done show moment marks held Miss = refl
+meta_reply_of-done show moment marks held (Hit flags cas value) = refl
+meta_reply_of-done show moment marks held (Meta shown value) = refl
+meta_reply_of-done show moment marks held (Fault fault) = refl
 
 -- what each command leaves, as its client knows
 abbrev pub LeavesBy : Given → Option Body → Atom (List ℕ) → KeyOutcome → Type 0
@@ -197,7 +197,7 @@ LeavesBy given held atom o = (IsKept held o.0 × (has_written atom o.1 ≡ false
 
 make-leaves : (given : Given) (key : List ℕ) (get : MetaGet) (create : Option ℤ) (moment : ℕ) → get.create ≡ create
     → LeavesBy given None (atoms.Meta (metas.Get key get))
-    (option_map_or (λ create. told_key get.show moment Won (put_as given None (numbered (made_by get.exptime create moment) 0) Stored)) create (None, Miss))
+    (option_map_or (λ create. as_meta get.show moment Won (put_as given None (numbered (made_by get.exptime create moment) 0) Stored)) create (None, Miss))
 make-leaves given key get None moment is = inl (tt, refl)
 make-leaves (Err fault) key get (Some create) moment is = inl (tt, refl)
 make-leaves (Ok number) key get (Some create) moment is = inr (refl, ap (λ (c : Option ℤ). is_some c && true) is)
@@ -219,4 +219,4 @@ step-leaves given None (atoms.Meta (metas.Get key get)) moment = make-leaves giv
 step-leaves given (Some body) (atoms.Meta (metas.Get key get)) moment = inl (looked-same get moment body, refl)
 step-leaves given held (atoms.Meta (metas.Update update show)) moment =
     let o : KeyOutcome = update_as given held update moment in
-    subst (λ v. (IsKept held o.0 × (v ≡ false)) ⊎ (IsFresh given o.0 × (v ≡ true))) (sym (told-done show moment Plain o.0 o.1)) (update-leaves given held update moment)
+    subst (λ v. (IsKept held o.0 × (v ≡ false)) ⊎ (IsFresh given o.0 × (v ≡ true))) (sym (meta_reply_of-done show moment Plain o.0 o.1)) (update-leaves given held update moment)

@@ -8,5 +8,5 @@ pub mod ReadLemmas
 pub mod CounterLemmas
 pub mod CountLemmas
 pub mod RecacheLemmas
-pub mod ToldLemmas
+pub mod RecordLemmas
 pub mod RestartLemmas

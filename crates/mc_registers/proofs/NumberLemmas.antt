@@ -19,9 +19,9 @@ use Rattle.mc_reply.specs.declared.replies.Marks.TheVariants.{Plain, Won}
 use Rattle.mc_reply.specs.declared.replies.Reply.{Reply}
 use Rattle.mc_reply.specs.declared.replies.Reply.TheVariants.{Stored, NotStored, Exists, NotFound, Deleted, Touched, Flushed, Number, Miss, Hit, Meta, Fault}
 use Rattle.mc_cache.specs.Settling.{is_dead_at}
-use Rattle.mc_cache.specs.Showing.{item_shown, marks_of, told}
+use Rattle.mc_cache.specs.Showing.{item_shown, marks_of, meta_reply_of}
 use Rattle.mc_cache.specs.Step.{Content, numbered, compared, unmet, unstored, content_by, touched, expiry_by, counted, made_by, looked_at}
-use Rattle.mc_cache_laws.specs.OneMap.{KeyOutcome, told_key}
+use Rattle.mc_cache_laws.specs.OneMap.{KeyOutcome, as_meta}
 use Rattle.mc_registers.specs.Registers.{Given, put_as, unless, number_as, update_as, register_step, turn, last_by}
 use Rattle.mc_registers.specs.Guarantees.{number_shown, CasLosesNothing}
 use Rattle.mc_registers.proofs.GuaranteeLemmas.{IsNumbered, IsAt, needed-run, run-part}
@@ -96,20 +96,20 @@ item-shows : (show : Show) (moment : ℕ) (marks : Marks) (held : Option Body) (
 item-shows show moment marks None number shows = absurd cc
 item-shows show moment marks (Some body) number shows = (body, refl, asked-same show.cas body.cas number shows)
 
-told-shows : (show : Show) (moment : ℕ) (marks : Marks) (held : Option Body) (reply : Reply (List ℕ)) (number : ℕ) → is_line reply ≡ true
-    → number_shown (told show moment marks held reply) ≡ Some number → IsNumbered number held
-told-shows show moment marks held Stored number line shows = item-shows show moment marks held number shows
-told-shows show moment marks held (Number n) number line shows = item-shows show moment marks held number shows
-told-shows show moment marks held (Hit flags cas value) number line shows = absurd cc
-told-shows show moment marks held (Meta shown value) number line shows = absurd cc
-told-shows show moment marks held NotStored number line shows = absurd cc
-told-shows show moment marks held Exists number line shows = absurd cc
-told-shows show moment marks held NotFound number line shows = absurd cc
-told-shows show moment marks held Deleted number line shows = absurd cc
-told-shows show moment marks held Touched number line shows = absurd cc
-told-shows show moment marks held Flushed number line shows = absurd cc
-told-shows show moment marks held Miss number line shows = absurd cc
-told-shows show moment marks held (Fault fault) number line shows = absurd cc
+meta_reply_of-shows : (show : Show) (moment : ℕ) (marks : Marks) (held : Option Body) (reply : Reply (List ℕ)) (number : ℕ) → is_line reply ≡ true
+    → number_shown (meta_reply_of show moment marks held reply) ≡ Some number → IsNumbered number held
+meta_reply_of-shows show moment marks held Stored number line shows = item-shows show moment marks held number shows
+meta_reply_of-shows show moment marks held (Number n) number line shows = item-shows show moment marks held number shows
+meta_reply_of-shows show moment marks held (Hit flags cas value) number line shows = absurd cc
+meta_reply_of-shows show moment marks held (Meta shown value) number line shows = absurd cc
+meta_reply_of-shows show moment marks held NotStored number line shows = absurd cc
+meta_reply_of-shows show moment marks held Exists number line shows = absurd cc
+meta_reply_of-shows show moment marks held NotFound number line shows = absurd cc
+meta_reply_of-shows show moment marks held Deleted number line shows = absurd cc
+meta_reply_of-shows show moment marks held Touched number line shows = absurd cc
+meta_reply_of-shows show moment marks held Flushed number line shows = absurd cc
+meta_reply_of-shows show moment marks held Miss number line shows = absurd cc
+meta_reply_of-shows show moment marks held (Fault fault) number line shows = absurd cc
 
 pub step-shows : (given : Given) (held : Option Body) (atom : Atom (List ℕ)) (moment number : ℕ) → number_shown (register_step given held atom moment).1 ≡ Some number
     → IsNumbered number (register_step given held atom moment).0
@@ -122,18 +122,18 @@ step-shows given held (atoms.Update update) moment number shows =
 step-shows given None (atoms.Meta (metas.Get key get)) moment number shows = go get.create shows
   where
     go : (create : Option ℤ) → let o : KeyOutcome = option_map_or
-        (λ create. told_key get.show moment Won (put_as given None (numbered (made_by get.exptime create moment) 0) Stored)) create (None, Miss) in
+        (λ create. as_meta get.show moment Won (put_as given None (numbered (made_by get.exptime create moment) 0) Stored)) create (None, Miss) in
         number_shown o.1 ≡ Some number → IsNumbered number o.0
     go None shows = absurd cc
     go (Some create) shows =
         let body : Body = numbered (made_by get.exptime create moment) 0 in
         let o : KeyOutcome = put_as given None body Stored in
-        told-shows get.show moment Won o.0 o.1 number (put-line given None body Stored refl) shows
+        meta_reply_of-shows get.show moment Won o.0 o.1 number (put-line given None body Stored refl) shows
 step-shows given (Some body) (atoms.Meta (metas.Get key get)) moment number shows =
     item-shows get.show moment (marks_of get.recache moment body) (Some (looked_at get moment body)) number shows
 step-shows given held (atoms.Meta (metas.Update update show)) moment number shows =
     let o : KeyOutcome = update_as given held update moment in
-    told-shows show moment Plain o.0 o.1 number (update-line given held update moment) shows
+    meta_reply_of-shows show moment Plain o.0 o.1 number (update-line given held update moment) shows
 
 pub updates_lose_nothing : (last : ℕ) (held : Option Body) → CasLosesNothing last held
 updates_lose_nothing last held front between back read cas update number run shows updates needs done =

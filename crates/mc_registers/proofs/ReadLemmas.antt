@@ -13,9 +13,9 @@ use Rattle.mc_reply.specs.declared.replies.Marks.TheVariants.{Plain, Won}
 use Rattle.mc_reply.specs.declared.replies.Reply.{Reply}
 use Rattle.mc_reply.specs.declared.replies.Reply.TheVariants.{Stored, NotStored, Exists, NotFound, Deleted, Touched, Flushed, Number, Miss, Hit, Meta, Fault}
 use Rattle.mc_cache.specs.Settling.{is_dead_at}
-use Rattle.mc_cache.specs.Showing.{marks_of, item_shown, told}
+use Rattle.mc_cache.specs.Showing.{marks_of, item_shown, meta_reply_of}
 use Rattle.mc_cache.specs.Step.{Content, numbered, content_by, made_by, looked_at}
-use Rattle.mc_cache_laws.specs.OneMap.{KeyOutcome, told_key}
+use Rattle.mc_cache_laws.specs.OneMap.{KeyOutcome, as_meta}
 use Rattle.mc_registers.specs.Registers.{Given, put_as, update_as, register_step, turn, last_by}
 use Rattle.mc_registers.specs.Guarantees.{is_done, may_have_written, value_shown, flags_shown, ReadsSeeOwnWrites}
 use Rattle.mc_registers.proofs.LeftLemmas.{IsSame}
@@ -42,22 +42,22 @@ item-shows-of : (show : Show) (moment : ℕ) (marks : Marks) (body : Body) → S
 item-shows-of show moment marks body = (λ shown shows. asked-same show.value body.value shown shows, λ shown shows. asked-same show.flags body.flags shown shows)
 
 -- the reply to a meta command shows nothing if its update was not done
-told-hides : (show : Show) (moment : ℕ) (marks : Marks) (held : Option Body) (reply : Reply (List ℕ)) → is_line reply ≡ true → is_done (told show moment marks held reply) ≡ false
-    → Hides (told show moment marks held reply)
-told-hides show moment marks None Stored line undone = absurd cc
-told-hides show moment marks (Some body) Stored line undone = absurd cc
-told-hides show moment marks None (Number number) line undone = absurd cc
-told-hides show moment marks (Some body) (Number number) line undone = absurd cc
-told-hides show moment marks held Deleted line undone = absurd cc
-told-hides show moment marks held (Hit flags cas value) line undone = absurd cc
-told-hides show moment marks held (Meta shown value) line undone = absurd cc
-told-hides show moment marks held NotStored line undone = (refl, refl)
-told-hides show moment marks held Exists line undone = (refl, refl)
-told-hides show moment marks held NotFound line undone = (refl, refl)
-told-hides show moment marks held Touched line undone = (refl, refl)
-told-hides show moment marks held Flushed line undone = (refl, refl)
-told-hides show moment marks held Miss line undone = (refl, refl)
-told-hides show moment marks held (Fault fault) line undone = (refl, refl)
+meta_reply_of-hides : (show : Show) (moment : ℕ) (marks : Marks) (held : Option Body) (reply : Reply (List ℕ)) → is_line reply ≡ true → is_done (meta_reply_of show moment marks held reply) ≡ false
+    → Hides (meta_reply_of show moment marks held reply)
+meta_reply_of-hides show moment marks None Stored line undone = absurd cc
+meta_reply_of-hides show moment marks (Some body) Stored line undone = absurd cc
+meta_reply_of-hides show moment marks None (Number number) line undone = absurd cc
+meta_reply_of-hides show moment marks (Some body) (Number number) line undone = absurd cc
+meta_reply_of-hides show moment marks held Deleted line undone = absurd cc
+meta_reply_of-hides show moment marks held (Hit flags cas value) line undone = absurd cc
+meta_reply_of-hides show moment marks held (Meta shown value) line undone = absurd cc
+meta_reply_of-hides show moment marks held NotStored line undone = (refl, refl)
+meta_reply_of-hides show moment marks held Exists line undone = (refl, refl)
+meta_reply_of-hides show moment marks held NotFound line undone = (refl, refl)
+meta_reply_of-hides show moment marks held Touched line undone = (refl, refl)
+meta_reply_of-hides show moment marks held Flushed line undone = (refl, refl)
+meta_reply_of-hides show moment marks held Miss line undone = (refl, refl)
+meta_reply_of-hides show moment marks held (Fault fault) line undone = (refl, refl)
 
 -- a command that did not write shows what it found
 quiet-shows : (given : Given) (held : Option Body) (atom : Atom (List ℕ)) (moment : ℕ) → may_have_written atom (register_step given held atom moment).1 ≡ false
@@ -68,7 +68,7 @@ quiet-shows given held (atoms.Update update) moment quiet = inl (line-hides-all 
 quiet-shows given None (atoms.Meta (metas.Get key get)) moment quiet = go get.create refl given quiet
   where
     go : (create : Option ℤ) → get.create ≡ create → (given : Given) → let o : KeyOutcome = option_map_or
-        (λ create. told_key get.show moment Won (put_as given None (numbered (made_by get.exptime create moment) 0) Stored)) create (None, Miss) in
+        (λ create. as_meta get.show moment Won (put_as given None (numbered (made_by get.exptime create moment) 0) Stored)) create (None, Miss) in
         may_have_written (atoms.Meta (metas.Get key get)) o.1 ≡ false → ShowsFound None o.1
     go None is given quiet = inl (refl, refl)
     go (Some create) is (Err fault) quiet = inl (refl, refl)
@@ -77,7 +77,7 @@ quiet-shows given (Some body) (atoms.Meta (metas.Get key get)) moment quiet =
     inr (body, refl, item-shows-of get.show moment (marks_of get.recache moment body) (looked_at get moment body))
 quiet-shows given held (atoms.Meta (metas.Update update show)) moment quiet =
     let o : KeyOutcome = update_as given held update moment in
-    inl (told-hides show moment Plain o.0 o.1 (update-line given held update moment) quiet)
+    inl (meta_reply_of-hides show moment Plain o.0 o.1 (update-line given held update moment) quiet)
 
 -- it shows the fields of this body, if that is the one that is found
 shows-own : (found : Option Body) (own : Body) (reply : Reply (List ℕ)) → ((body : Body) → found ≡ Some body → IsSame own body) → ShowsFound found reply → ShowsOf own reply

@@ -12,11 +12,11 @@ use Rattle.mc_reply.specs.declared.replies.Reply.TheVariants.{Stored, Miss}
 use Rattle.mc_cache.specs.Settling.{is_dead_at}
 use Rattle.mc_cache.specs.Showing.{marks_by, needs_filling}
 use Rattle.mc_cache.specs.Step.{numbered, made_by}
-use Rattle.mc_cache_laws.specs.OneMap.{KeyOutcome, told_key}
+use Rattle.mc_cache_laws.specs.OneMap.{KeyOutcome, as_meta}
 use Rattle.mc_registers.specs.Registers.{Given, put_as, update_as, register_step, Done, turn, last_by, IsRun}
 use Rattle.mc_registers.specs.Guarantees.{has_written, may_have_written, HaveNotWritten, IsSteadyRun}
 use Rattle.mc_registers.specs.Recache.{is_win, has_won, wins, RecacheHasOneWinner, EachWinIsMarked}
-use Rattle.mc_registers.proofs.LeftLemmas.{IsKept, IsLeft, kept-left, told-done, update-leaves}
+use Rattle.mc_registers.proofs.LeftLemmas.{IsKept, IsLeft, kept-left, meta_reply_of-done, update-leaves}
 use Rattle.mc_registers.proofs.GuaranteeLemmas.{held-kept, run-part}
 
 -- the stored item was won; and likewise, if there is one
@@ -62,7 +62,7 @@ win-leaves given held (atoms.Update update) moment won = absurd cc
 win-leaves given None (atoms.Meta (metas.Get key get)) moment won = go get.create given won
   where
     go : (create : Option ℤ) (given : Given) → let o : KeyOutcome = option_map_or
-        (λ create. told_key get.show moment Won (put_as given None (numbered (made_by get.exptime create moment) 0) Stored)) create (None, Miss) in
+        (λ create. as_meta get.show moment Won (put_as given None (numbered (made_by get.exptime create moment) 0) Stored)) create (None, Miss) in
         has_won (atoms.Meta (metas.Get key get)) o.1 ≡ true → IsHeldWon o.0
     go None given won = absurd cc
     go (Some create) (Err fault) won = absurd cc
@@ -122,7 +122,7 @@ unwritten-won given None (atoms.Update update) moment won none =
 unwritten-won given None (atoms.Meta (metas.Get key get)) moment won none = go get.create given
   where
     go : (create : Option ℤ) (given : Given) → let o : KeyOutcome = option_map_or
-        (λ create. told_key get.show moment Won (put_as given None (numbered (made_by get.exptime create moment) 0) Stored)) create (None, Miss) in IsWon o.0
+        (λ create. as_meta get.show moment Won (put_as given None (numbered (made_by get.exptime create moment) 0) Stored)) create (None, Miss) in IsWon o.0
     go None given = tt
     go (Some create) (Err fault) = tt
     go (Some create) (Ok number) = refl
@@ -130,7 +130,7 @@ unwritten-won given None (atoms.Meta (metas.Update update show)) moment won none
     let o : KeyOutcome = update_as given None update moment in
     elim (update-leaves given None update moment) [
       | inl kept ↦ won-left None o.0 tt (kept-left None o.0 kept.0)
-      | inr fresh ↦ absurd (true≢false (sym fresh.1 ∙ sym (told-done show moment Plain o.0 o.1) ∙ none))
+      | inr fresh ↦ absurd (true≢false (sym fresh.1 ∙ sym (meta_reply_of-done show moment Plain o.0 o.1) ∙ none))
     ]
 unwritten-won given (Some body) atom moment won none =
     let left : Option Body = (register_step given (Some body) atom moment).0 in
@@ -154,7 +154,7 @@ second-made given held (atoms.Update update) moment won again = absurd cc
 second-made given None (atoms.Meta (metas.Get key get)) moment won again = go get.create refl given again
   where
     go : (create : Option ℤ) → get.create ≡ create → (given : Given) → let o : KeyOutcome = option_map_or
-        (λ create. told_key get.show moment Won (put_as given None (numbered (made_by get.exptime create moment) 0) Stored)) create (None, Miss) in
+        (λ create. as_meta get.show moment Won (put_as given None (numbered (made_by get.exptime create moment) 0) Stored)) create (None, Miss) in
         has_won (atoms.Meta (metas.Get key get)) o.1 ≡ true → may_have_written (atoms.Meta (metas.Get key get)) o.1 ≡ true
     go None is given again = absurd cc
     go (Some create) is (Err fault) again = absurd cc

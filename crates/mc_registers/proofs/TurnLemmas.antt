@@ -27,11 +27,11 @@ use Rattle.mc_reply.specs.declared.replies.Reply.TheVariants.{Stored, NotFound, 
 use Rattle.mc_store.specs.Items.{Items, body_at, without, brought}
 use Rattle.mc_store.proofs.ItemLemmas.{body_at-brought}
 use Rattle.mc_cache.specs.CacheState.{CacheState, IsHeldWithin}
-use Rattle.mc_cache.specs.Showing.{told}
+use Rattle.mc_cache.specs.Showing.{meta_reply_of}
 use Rattle.mc_cache.specs.Step.{StepResult, Content, numbered, unstored, content_by, compared, fronted, store_step, touched, expiry_by, get_step, touch_step, delete_by, delete_step, counted, number_stored, count_number, count_by, count_none, count_step, update_step, made_by, looked_at, meta_get_none, meta_get_step, held_under, settled_step, stored, atom_key}
 use Rattle.mc_cache.proofs.HeldLemmas.{body_at-own, held-without, held-changed, held-brought, held-put}
 use Rattle.mc_cache.proofs.StoredLemmas.{own_key}
-use Rattle.mc_cache_laws.specs.OneMap.{KeyOutcome, touch_key, told_key}
+use Rattle.mc_cache_laws.specs.OneMap.{KeyOutcome, touch_key, as_meta}
 use Rattle.mc_cache_laws.proofs.OutcomeLemmas.{EndsStored, IsAdmitted, with_content, number_content, stored-ends, store-ends}
 use Rattle.mc_cache_laws.proofs.ShownLemmas.{first_item}
 use Rattle.mc_registers.specs.Registers.{Given, put_as, unless, store_as, get_as, delete_as, number_as, count_as, meta_get_as, update_as, register_step, may_give, last_by}
@@ -242,13 +242,13 @@ update-turns s (Count at counting) moment refused key is good =
 update-turns s (FlushAll delay) moment refused key is good = absurd cc
 
 -- a reply as a meta command shows it
-told-turns : (s : CacheState) (key : List ℕ) (show : Show) (moment : ℕ) (marks : Marks) (expected : Given → KeyOutcome) (o : StepResult)
+meta_reply_of-turns : (s : CacheState) (key : List ℕ) (show : Show) (moment : ℕ) (marks : Marks) (expected : Given → KeyOutcome) (o : StepResult)
     → Turns s key expected o
-    → Turns s key (λ given. told_key show moment marks (expected given)) (o.0, told show moment marks (body_at key o.0.items) o.1)
-told-turns s key show moment marks expected o turns = record {
+    → Turns s key (λ given. as_meta show moment marks (expected given)) (o.0, meta_reply_of show moment marks (body_at key o.0.items) o.1)
+meta_reply_of-turns s key show moment marks expected o turns = record {
   given = turns.given;
   may = turns.may;
-  reply = ap (λ (h : Option Body). told show moment marks h o.1) turns.own ∙ ap (λ (r : Reply (List ℕ)). told show moment marks (expected turns.given).0 r) turns.reply;
+  reply = ap (λ (h : Option Body). meta_reply_of show moment marks h o.1) turns.own ∙ ap (λ (r : Reply (List ℕ)). meta_reply_of show moment marks (expected turns.given).0 r) turns.reply;
   own = turns.own;
   counter = turns.counter;
   next = turns.next;
@@ -258,14 +258,14 @@ told-turns s key show moment marks expected o turns = record {
 
 -- `mg`
 meta_get_none-turns : (s : CacheState) (key : List ℕ) (get : MetaGet) (create : Option ℤ) (moment : ℕ) (refused : Bool) → body_at key s.items ≡ None → IsGood s
-    → Turns s key (λ given. option_map_or (λ create. told_key get.show moment Won (put_as given None (numbered (made_by get.exptime create moment) 0) Stored)) create (None, Miss))
+    → Turns s key (λ given. option_map_or (λ create. as_meta get.show moment Won (put_as given None (numbered (made_by get.exptime create moment) 0) Stored)) create (None, Miss))
     (meta_get_none s key get create moment refused)
 meta_get_none-turns s key get None moment refused is good =
     same-turns s key (λ given. (None, Miss)) (Ok (s.counter + 1)) Miss good (next_may s.counter) (ap (λ (h : Option Body). (h, Miss)) (sym is))
 meta_get_none-turns s key get (Some create) moment refused is good =
     let content : Content = made_by get.exptime create moment in
     let expected : Option Body → Given → KeyOutcome = λ h given. put_as given h (numbered content 0) Stored in
-    told-turns s key get.show moment Won (expected None) (stored s key content refused Stored)
+    meta_reply_of-turns s key get.show moment Won (expected None) (stored s key content refused Stored)
     (stored-ends (Turns s key (expected None)) s key content refused Stored
     (subst (λ (h : Option Body). EndsStored (Turns s key (expected h)) s key content Stored) is (content-ends s key content Stored good)))
 
@@ -290,5 +290,5 @@ settled_step-turns s (atoms.Meta (metas.Get at get)) moment refused key is good 
 settled_step-turns s (atoms.Meta (metas.Update update show)) moment refused key is good =
     let o : StepResult = update_step s update moment refused in
     let expected : Given → KeyOutcome = λ given. update_as given (body_at key s.items) update moment in
-    subst (λ (k : Option (List ℕ)). Turns s key (λ given. told_key show moment Plain (expected given)) (o.0, told show moment Plain (held_under k o.0) o.1)) (sym is)
-    (told-turns s key show moment Plain expected o (update-turns s update moment refused key is good))
+    subst (λ (k : Option (List ℕ)). Turns s key (λ given. as_meta show moment Plain (expected given)) (o.0, meta_reply_of show moment Plain (held_under k o.0) o.1)) (sym is)
+    (meta_reply_of-turns s key show moment Plain expected o (update-turns s update moment refused key is good))

@@ -4,4 +4,4 @@ pub mod Laws
 pub mod Guarantees
 pub mod Recache
 pub mod Restarts
-pub mod Told
+pub mod Records

@@ -25,7 +25,7 @@ use Rattle.mc_reply.specs.declared.replies.Reply.TheVariants.{Stored, NotFound, 
 use Rattle.mc_cache.specs.Settling.{is_dead_at}
 use Rattle.mc_cache.specs.Showing.{item_shown, marks_of}
 use Rattle.mc_cache.specs.Step.{Content, numbered, compared, unstored, content_by, touched, expiry_by, counted, made_by, looked_at}
-use Rattle.mc_cache_laws.specs.OneMap.{KeyOutcome, touch_key, told_key}
+use Rattle.mc_cache_laws.specs.OneMap.{KeyOutcome, touch_key, as_meta}
 
 -- the outcome of a store: the number that its item gets, or why it is refused
 abbrev pub Given : Type 0
@@ -72,7 +72,7 @@ count_as given (Some body) counting moment = unless (Some body) (compared counti
 -- `mg`: source protocol.txt, "Meta Get"
 abbrev pub meta_get_as : Given → Option Body → MetaGet → ℕ → KeyOutcome
 meta_get_as given None get moment =
-    option_map_or (λ create. told_key get.show moment Won (put_as given None (numbered (made_by get.exptime create moment) 0) Stored)) get.create (None, Miss)
+    option_map_or (λ create. as_meta get.show moment Won (put_as given None (numbered (made_by get.exptime create moment) 0) Stored)) get.create (None, Miss)
 meta_get_as given (Some body) get moment = (Some (looked_at get moment body), item_shown get.show moment (marks_of get.recache moment body) (Some (looked_at get moment body)))
 
 -- a command on the key, by the stored item: the item after it, and the reply. A flush has no key
@@ -88,7 +88,7 @@ abbrev pub register_step : Given → Option Body → Atom (List ℕ) → ℕ →
 register_step given held (atoms.Get key exptime with_cas) moment = get_as held exptime with_cas moment
 register_step given held (atoms.Update update) moment = update_as given held update moment
 register_step given held (atoms.Meta (metas.Get key get)) moment = meta_get_as given held get moment
-register_step given held (atoms.Meta (metas.Update update show)) moment = told_key show moment Plain (update_as given held update moment)
+register_step given held (atoms.Meta (metas.Update update show)) moment = as_meta show moment Plain (update_as given held update moment)
 
 -- a command on the key that was executed: which, when, and what it was answered
 pub record Done : Type 0 where

@@ -8,7 +8,7 @@ ghost use Rattle.mc_history.specs.declared.entries.Entry.{Entry};
 ghost use Rattle.mc_registers.specs.Registers.{Done, IsRun};
 ghost use Rattle.mc_registers.specs.Laws.{done_on};
 ghost use Rattle.mc_registers.specs.Restarts.{CasLosesNothingAcrossRestarts};
-ghost use Rattle.mc_registers.specs.Told.{TellEach, on_key};
+ghost use Rattle.mc_registers.specs.Records.{RecordEach, on_key};
 
 /// A cache executes commands from its opening on, at whatever moments. Then those on one key are a run of the register. So a hit is never stale or
 /// wrong: only a miss may be due to forgetting.
@@ -22,7 +22,7 @@ pub fn keys_are_registers()
 pub fn histories_are_registers()
     ensures { (order : Order) → (place budget limit counter : ℕ) → IsWithinBounds budget limit → (history : List Entry)
         → IsLegal order place (opening_cache budget limit counter) history
-        → (all : List Done) × TellEach order place history all × ((key : List ℕ) → IsRun counter None (on_key key all)) }
+        → (all : List Done) × RecordEach order place history all × ((key : List ℕ) → IsRun counter None (on_key key all)) }
 {}
 
 /// A cache executed some commands, on whatever keys. The numbers of a later cache begin above the first one's, by at least one for each command. Then

@@ -3,8 +3,8 @@ use Rattle.std.specs.Prelude.{ℕ, List, [], ◌∷◌, codes, Some, None}
 use Rattle.mc_text.specs.Words.{words}
 use Rattle.mc_request.specs.Meanings.{Meaning, Alone, Stores, Refuses, meaning}
 use Rattle.mc_request.specs.Requests.{stored}
-use Rattle.mc_request.specs.declared.parts.Taken.{Taken}
-use Rattle.mc_request.specs.declared.parts.Taken.TheVariants.{Whole, Faulty}
+use Rattle.mc_request.specs.declared.parts.Parsed.{Parsed}
+use Rattle.mc_request.specs.declared.parts.Parsed.TheVariants.{Whole, Faulty}
 use Rattle.mc_reply.specs.declared.replies.Marks.{Marks}
 use Rattle.mc_reply.specs.declared.replies.Reply.{Reply}
 use Rattle.mc_reply.specs.declared.replies.Reply.TheVariants.{Meta}
@@ -12,7 +12,7 @@ use Rattle.mc_reply.specs.Replies.{nothing_shown}
 use Rattle.mc_reply.specs.Spelling.{answer}
 
 -- what a line is taken as, with a data block of `x` if one follows
-abbrev pub taken_with : Meaning → Taken
+abbrev pub taken_with : Meaning → Parsed
 taken_with (Alone taken) = taken
 taken_with (Stores storing len) = Whole (stored storing (codes "x"))
 taken_with (Refuses fault len) = Faulty fault

@@ -4,15 +4,15 @@ use Rattle.mc_text.specs.Numbers.{read_len}
 use Rattle.mc_request.specs.declared.faults.Fault.{Fault}
 use Rattle.mc_request.specs.declared.faults.Fault.TheVariants.{UnknownCommand}
 use Rattle.mc_request.specs.declared.parts.StoreMode.{StoreMode}
-use Rattle.mc_request.specs.declared.parts.Taken.{Taken}
-use Rattle.mc_request.specs.declared.parts.Taken.TheVariants.{Whole, Faulty}
+use Rattle.mc_request.specs.declared.parts.Parsed.{Parsed}
+use Rattle.mc_request.specs.declared.parts.Parsed.TheVariants.{Whole, Faulty}
 use Rattle.mc_request.specs.Faults.{◌>>=◌}
 use Rattle.mc_request.specs.Names.{at_most, between}
 use Rattle.mc_request.specs.Meanings.{Line, Alone, meaning_from, fourth_len, after_length, storing_by, store_line}
 use Rattle.mc_request.specs.LinesSeen.{line_of_taken}
 
 -- the line of what is taken means that alone
-pub taken_alone : (taken : Taken) → meaning_from None (line_of_taken taken) ≡ Alone taken
+pub taken_alone : (taken : Parsed) → meaning_from None (line_of_taken taken) ≡ Alone taken
 taken_alone (Whole request) = refl
 taken_alone (Faulty fault) = refl
 

@@ -6,7 +6,7 @@ use Rattle.std.specs.Str.Parse.{digits_value}
 use Rattle.mc_text.specs.Numbers.{has_digits, number, read_i64}
 use Rattle.mc_request.specs.declared.faults.Fault.{Fault}
 use Rattle.mc_request.specs.Faults.{closes, ◌>>=◌}
-use Rattle.mc_request.specs.Meanings.{Line, Lone, Storage, Storing, well_formed, storage_line}
+use Rattle.mc_request.specs.Meanings.{Line, Lone, Storage, PendingStore, well_formed, storage_line}
 use Rattle.mc_request.specs.WellFormed.{is_i64, is_where_some, is_good_request, is_good_storing}
 
 -- what holds of a part that was read; a fault closes nothing
@@ -91,7 +91,7 @@ pub length_good : (len : Option ℕ) → holds (λ n. block_is len (Some n)) (we
 length_good None = refl
 length_good (Some n) = same_block (Some n)
 
-pub storage_tested : (block : Option ℕ) (storing : Storing) (len : ℕ) (b : Bool) → is_good_storing storing ≡ true → block_is block (Some len) ≡ true → nat_lt 1048576 len ≡ b
+pub storage_tested : (block : Option ℕ) (storing : PendingStore) (len : ℕ) (b : Bool) → is_good_storing storing ≡ true → block_is block (Some len) ≡ true → nat_lt 1048576 len ≡ b
     → holds (is_good_line block) (storage_line storing len) ≡ true
 storage_tested block storing len true good same is = rw is refl
 storage_tested block storing len false good same is = let small : nat_le len 1048576 ≡ true = grind (arith, nat_tests, is) in rw is (rw (good, small, same) refl)

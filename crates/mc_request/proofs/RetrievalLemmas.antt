@@ -10,7 +10,7 @@ use Rattle.mc_request.specs.Names.{name_of, at_least}
 use Rattle.mc_request.specs.Meanings.{Alone, meaning, meaning_named}
 use Rattle.mc_request.specs.declared.names.Name.TheVariants.{Get, Gets}
 use Rattle.mc_request.specs.declared.parts.Request.TheVariants as requests
-use Rattle.mc_request.specs.declared.parts.Taken.TheVariants.{Whole}
+use Rattle.mc_request.specs.declared.parts.Parsed.TheVariants.{Whole}
 
 words_get : (keys : List ℕ) → words (codes "get " ++ keys) ≡ codes "get" ∷ words keys
 unfolding words

@@ -24,12 +24,12 @@ use Rattle.mc_request.specs.declared.parts.StoreMode.{StoreMode}
 use Rattle.mc_request.specs.declared.parts.StoreMode.TheVariants.{Set, Add, Replace, Append, Prepend}
 use Rattle.mc_request.specs.declared.parts.Update.{Update}
 use Rattle.mc_request.specs.declared.parts.Update.TheVariants.{Store, Touch, Delete, Count, FlushAll}
-use Rattle.mc_request.specs.declared.parts.Taken.{Taken}
-use Rattle.mc_request.specs.declared.parts.Taken.TheVariants.{Whole, Faulty}
+use Rattle.mc_request.specs.declared.parts.Parsed.{Parsed}
+use Rattle.mc_request.specs.declared.parts.Parsed.TheVariants.{Whole, Faulty}
 use Rattle.mc_request.specs.Faults.{closes}
 use Rattle.mc_request.specs.Parts as parts
 use Rattle.mc_request.specs.Names.{name_of, has_arity, at_least, is_noreply, noreply_of}
-use Rattle.mc_request.specs.Meanings.{Line, Lone, Storage, Storing, Classic, MetaSet, Meaning, plain_counting, Alone, Stores, Refuses, key_of, well_formed, update_line, touch_line, without_zero, delete_line, count_parts, count_line, flush_parts, flush_line, keys_line, gat_line, storage_parts, storing_by, after_length, store_line, line_named, line_of, announced, meaning_from, meaning_by, meaning, announced_by, announced_in}
+use Rattle.mc_request.specs.Meanings.{Line, Lone, Storage, PendingStore, Classic, MetaSet, Meaning, plain_counting, Alone, Stores, Refuses, key_of, well_formed, update_line, touch_line, without_zero, delete_line, count_parts, count_line, flush_parts, flush_line, keys_line, gat_line, storage_parts, storing_by, after_length, store_line, line_named, line_of, announced, meaning_from, meaning_by, meaning, announced_by, announced_in}
 use Rattle.mc_request.specs.Requests.{stored, with_block, taken_by, next_by, next_request, requests_from, requests_within, requests_of, ends}
 use Rattle.mc_request.specs.WellFormed.{is_u64, is_i64, is_where_some, is_good_update, is_meta_key, command_name, has_flags, is_good_block, is_good_request, is_well_formed, is_good_storing, is_good_meaning}
 use Rattle.mc_request.proofs.PartLemmas.{not_true, Holds, bound, by_test, of_test, holds, any_bool, and_then, either, tested, some_good, number_good, i64_good, block_is, is_good_line, both, length_good, left, right}
@@ -38,7 +38,7 @@ use Rattle.mc_request.proofs.MetaLemmas.{mg_good, md_good, ma_good, ms_good}
 abbrev some : ℕ → Option ℕ
 some n = Some n
 
-abbrev some_taken : Taken × ℕ → Option (Taken × ℕ)
+abbrev some_taken : Parsed × ℕ → Option (Parsed × ℕ)
 some_taken x = Some x
 
 key_good : (word : List ℕ) → holds is_plain_key (key_of word) ≡ true
@@ -233,7 +233,7 @@ pub refuses_nothing_closed : (fault : Fault) → not (closes fault) ≡ true →
 refuses_nothing_closed fault h = not_true (closes fault) h
 
 -- a block that follows is one that may be stored
-pub stores_little : (s : Storing) (len : ℕ) → is_good_meaning (Stores s len) ≡ true → len ≤ 1048576
+pub stores_little : (s : PendingStore) (len : ℕ) → is_good_meaning (Stores s len) ≡ true → len ≤ 1048576
 stores_little s len h = let small = right (is_good_storing s) (nat_le len 1048576) h in grind (arith, nat_tests, small)
 
 -- a block in the place of none
@@ -256,7 +256,7 @@ name_with_block (Delete key compare invalidate) show block = refl
 name_with_block (Count key counting) show block = refl
 name_with_block (FlushAll delay) show block = refl
 
-stored_good : (s : Storing) (block : List ℕ) → is_good_storing s ≡ true → length block ≤ 1048576 → is_good_request (stored s block) ≡ true
+stored_good : (s : PendingStore) (block : List ℕ) → is_good_storing s ≡ true → length block ≤ 1048576 → is_good_request (stored s block) ≡ true
 stored_good (Classic update noreply) block h small = with_good_block is_plain_key update block h small
 stored_good (MetaSet update show form) block h small =
     let good = left (is_good_update (is_meta_key form.coded) (λ _. true) update) (has_flags (command_name (metas.Update update show)) form.flags) h in
@@ -264,16 +264,16 @@ stored_good (MetaSet update show form) block h small =
     both (is_good_update (is_meta_key form.coded) is_good_block (parts.with_block update block)) (has_flags (command_name (metas.Update (parts.with_block update block) show)) form.flags)
     (with_good_block (is_meta_key form.coded) update block good small) (rw (name_with_block update show block) has)
 
-block_good_by : (s : Storing) (block : List ℕ) (b : Bool) → is_good_storing s ≡ true → length block ≤ 1048576
+block_good_by : (s : PendingStore) (block : List ℕ) (b : Bool) → is_good_storing s ≡ true → length block ≤ 1048576
     → is_well_formed (if b then Whole (stored s block) else Faulty faults.BadDataChunk) ≡ true
 block_good_by s block true h small = stored_good s block h small
 block_good_by s block false h small = refl
 
-taken_when : (b : Bool) (x : Taken × ℕ) (y : Taken × ℕ) → cond b None (some_taken x) ≡ Some y → x ≡ y
+taken_when : (b : Bool) (x : Parsed × ℕ) (y : Parsed × ℕ) → cond b None (some_taken x) ≡ Some y → x ≡ y
 taken_when true x y e = absurd cc
 taken_when false x y e = cc
 
-taken_good : (m : Meaning) (line : ℕ) (rest : List ℕ) (x : Taken × ℕ) → is_good_meaning m ≡ true → taken_by m line rest ≡ Some x → is_well_formed x.0 ≡ true
+taken_good : (m : Meaning) (line : ℕ) (rest : List ℕ) (x : Parsed × ℕ) → is_good_meaning m ≡ true → taken_by m line rest ≡ Some x → is_well_formed x.0 ≡ true
 taken_good (Alone taken) line rest x h e = let same : taken ≡ x.0 = cc in rw (← same) h
 taken_good (Refuses fault len) line rest x h e =
     let same = taken_when (nat_lt (length rest) (len + 2)) (Faulty fault, line + (len + 2)) x e in rw (← same) refl
@@ -283,21 +283,21 @@ taken_good (Stores s len) line rest x h e =
     let small : length (take len rest) ≤ 1048576 = grind (arith, nat_tests, length-take len rest, limit) in
     rw (← same) (block_good_by s (take len rest) (bytes_eq (take 2 (drop len rest)) (codes "\r\n")) (left (is_good_storing s) (nat_le len 1048576) h) small)
 
-next_good_by : (l : FirstLine) (text : List ℕ) (x : Taken × ℕ) → next_by l text ≡ Some x → is_well_formed x.0 ≡ true
+next_good_by : (l : FirstLine) (text : List ℕ) (x : Parsed × ℕ) → next_by l text ≡ Some x → is_well_formed x.0 ≡ true
 next_good_by lines.Partial text x e = absurd cc
 next_good_by lines.TooLong text x e = let same : Faulty faults.LineTooLong ≡ x.0 = cc in rw (← same) refl
 next_good_by (lines.Whole content line) text x e = taken_good (meaning (words content)) line (drop line text) x (meaning_good (words content)) e
 
 -- whatever is first is well formed
-pub next_request_good : (text : List ℕ) (x : Taken × ℕ) → next_request text ≡ Some x → is_well_formed x.0 ≡ true
+pub next_request_good : (text : List ℕ) (x : Parsed × ℕ) → next_request text ≡ Some x → is_well_formed x.0 ≡ true
 unfolding next_request
 next_request_good text x e = next_good_by (first_line text) text x e
 
-if_good : (b : Bool) (ts : List Taken) → list_all is_well_formed ts ≡ true → list_all is_well_formed (if b then [] else ts) ≡ true
+if_good : (b : Bool) (ts : List Parsed) → list_all is_well_formed ts ≡ true → list_all is_well_formed (if b then [] else ts) ≡ true
 if_good true ts h = refl
 if_good false ts h = h
 
-from_good : (o : Option (Taken × ℕ)) (text : List ℕ) (f : List ℕ → List Taken) → ((x : Taken × ℕ) → o ≡ Some x → is_well_formed x.0 ≡ true) → ((t : List ℕ) → list_all is_well_formed (f t) ≡ true)
+from_good : (o : Option (Parsed × ℕ)) (text : List ℕ) (f : List ℕ → List Parsed) → ((x : Parsed × ℕ) → o ≡ Some x → is_well_formed x.0 ≡ true) → ((t : List ℕ) → list_all is_well_formed (f t) ≡ true)
     → list_all is_well_formed (requests_from o text f) ≡ true
 from_good None text f first others = refl
 from_good (Some x) text f first others = both (is_well_formed x.0) _ (first x refl) (if_good (ends x.0) (f (drop x.1 text)) (others (drop x.1 text)))

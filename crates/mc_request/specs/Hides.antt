@@ -8,8 +8,8 @@ use Rattle.mc_request.specs.declared.parts.Update.{Update as AnUpdate}
 use Rattle.mc_request.specs.declared.parts.Update.TheVariants.{Store, Delete, Count}
 use Rattle.mc_request.specs.declared.parts.Request.{Request}
 use Rattle.mc_request.specs.declared.parts.Request.TheVariants.{Update, Meta}
-use Rattle.mc_request.specs.declared.parts.Taken.{Taken}
-use Rattle.mc_request.specs.declared.parts.Taken.TheVariants.{Whole, Faulty}
+use Rattle.mc_request.specs.declared.parts.Parsed.{Parsed}
+use Rattle.mc_request.specs.declared.parts.Parsed.TheVariants.{Whole, Faulty}
 
 -- what a quiet update hides: that it was done, and for `md` and `ma` that the key is not stored
 -- source: protocol.txt, "Meta Set", "Meta Delete", "Meta Arithmetic", flag q
@@ -32,6 +32,6 @@ hides_of (Meta command form) = hidden_by command form.quiet
 hides_of request = Nothing
 
 -- what is no request hides nothing
-abbrev pub hides_taken : Taken → Hides
+abbrev pub hides_taken : Parsed → Hides
 hides_taken (Whole request) = hides_of request
 hides_taken (Faulty fault) = Nothing

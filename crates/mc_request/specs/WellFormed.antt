@@ -15,12 +15,12 @@ use Rattle.mc_request.specs.declared.names.Name.{Name}
 use Rattle.mc_request.specs.declared.names.Name.TheVariants as names
 use Rattle.mc_request.specs.Faults.{closes}
 use Rattle.mc_request.specs.Flags.{takes_flags}
-use Rattle.mc_request.specs.Meanings.{Meaning, Storing, Classic, MetaSet, Alone, Stores, Refuses}
+use Rattle.mc_request.specs.Meanings.{Meaning, PendingStore, Classic, MetaSet, Alone, Stores, Refuses}
 use Rattle.mc_request.specs.Parts.{key_in, key_in_meta}
 use Rattle.mc_request.specs.declared.parts.Request.{Request}
 use Rattle.mc_request.specs.declared.parts.Request.TheVariants as requests
-use Rattle.mc_request.specs.declared.parts.Taken.{Taken}
-use Rattle.mc_request.specs.declared.parts.Taken.TheVariants.{Whole, Faulty}
+use Rattle.mc_request.specs.declared.parts.Parsed.{Parsed}
+use Rattle.mc_request.specs.declared.parts.Parsed.TheVariants.{Whole, Faulty}
 
 -- a number of 64 bits
 abbrev pub is_u64 : ℕ → Bool
@@ -100,12 +100,12 @@ is_good_request (requests.Meta command form) =
 is_good_request other = true
 
 -- keys, data blocks of at most 1,048,576 bytes, numbers within their limits, flag words of their command
-abbrev pub is_well_formed : Taken → Bool
+abbrev pub is_well_formed : Parsed → Bool
 is_well_formed (Whole request) = is_good_request request
 is_well_formed (Faulty fault) = true
 
 -- what a storage command satisfies before its data block has arrived
-abbrev pub is_good_storing : Storing → Bool
+abbrev pub is_good_storing : PendingStore → Bool
 is_good_storing (Classic update noreply) = is_good_update is_plain_key (λ _. true) update
 is_good_storing (MetaSet update show form) =
     is_good_update (is_meta_key form.coded) (λ _. true) update && has_flags (command_name (metas.Update update show)) form.flags

@@ -1,7 +1,7 @@
 //! Requests: what one line of a client asks for, with its data block.
 //!
-//! [`command_line`] reads a line, whose words it borrows. It returns an [`Asked`], a [`Storing`] that a data block follows, or a fault
-//! whose data block is swallowed. [`announced_in`] returns only the length of a line's data block. [`Asked::taken`] copies the borrowed
+//! [`command_line`] reads a line, whose words it borrows. It returns a [`RequestRef`], a [`PendingStore`] that a data block follows, or a fault
+//! whose data block is swallowed. [`announced_in`] returns only the length of a line's data block. [`RequestRef::taken`] copies the borrowed
 //! bytes into a [`Request`] or fault of its own. A borrowed meta command has its key as a word, plain or in base64 ([`key_bytes`],
 //! [`Update::said`]), and its flag words as they are in the line ([`MetaForm`]). [`flag_of`] returns the flag of a letter.
 //! [`Request::atoms`] returns the commands of a request, each an [`Atom`]. [`Atom::into_head`] makes it a [`Head`]: what a reader of
@@ -44,11 +44,11 @@ pub use flags::{Flag, OPAQUE_LIMIT, flag_of};
 pub use heads::Head;
 pub use hides::Hides;
 pub use keys::Keys;
-pub use lines::{Asked, CommandLine, Storing};
+pub use lines::{CommandLine, PendingStore, RequestRef};
 pub use meta::{Counting, Creation, FlagWords, MetaCommand, MetaForm, MetaGet, Show, key_bytes};
 pub use meta_examples::{
     coded_keys, faults_in_order, flags_are_once, flags_of_each_command, meta_commands, meta_sets,
     modes, opaques, tokens_of_each_flag,
 };
 pub use owned::keys_of;
-pub use parts::{Atom, Direction, ReadError, Request, StoreMode, Taken, Update};
+pub use parts::{Atom, Direction, Parsed, ReadError, Request, StoreMode, Update};

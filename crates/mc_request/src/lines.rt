@@ -5,12 +5,12 @@ ghost use Rattle.mc_request.specs.LinesSeen.{asked_of, storing_of};
 
 use crate::faults::Fault;
 use crate::meta::{MetaCommand, MetaForm, Show};
-use crate::parts::{Taken, Update};
+use crate::parts::{Parsed, Update};
 use mc_text::WordIter;
 
 /// A borrowed request or fault: its keys and its data block are slices of the text that it was read from.
 #[derive(Drop)]
-pub enum Asked<'a> {
+pub enum RequestRef<'a> {
     /// `get` and `gets`, or with an exptime `gat` and `gats`, with the words that are its keys: at least one.
     Get {
         keys: WordIter<'a>,
@@ -39,7 +39,7 @@ pub enum Asked<'a> {
 
 /// A storage command before its data block.
 #[derive(Drop)]
-pub enum Storing<'a> {
+pub enum PendingStore<'a> {
     /// `set`, `add`, `replace`, `append`, `prepend` and `cas`.
     Classic {
         update: Update<&'a [u8], ()>,
@@ -57,24 +57,24 @@ pub enum Storing<'a> {
 #[derive(Drop)]
 pub enum CommandLine<'a> {
     /// A request that no data block follows, or a fault: it is taken alone.
-    Alone(Asked<'a>),
+    Alone(RequestRef<'a>),
     /// A storage command, and the size in bytes of the data block that follows it.
-    Stores(Storing<'a>, u32),
+    Stores(PendingStore<'a>, u32),
     /// A faulty line, and the size in bytes of its data block, which is swallowed.
     Refuses(Fault, u32),
 }
 
-impl<'a> Storing<'a> {
+impl<'a> PendingStore<'a> {
     /// Returns the storage command with its data block.
-    pub fn with_block(self, block: &'a [u8]) -> Asked<'a>
-        ensures { asked_of result ≡ Taken.Whole (stored (storing_of self.entry) block.now) }
+    pub fn with_block(self, block: &'a [u8]) -> RequestRef<'a>
+        ensures { asked_of result ≡ Parsed.Whole (stored (storing_of self.entry) block.now) }
     {
         match self {
-            Storing::Classic { update, noreply } => Asked::Update {
+            PendingStore::Classic { update, noreply } => RequestRef::Update {
                 update: update.with_block(block),
                 noreply,
             },
-            Storing::Meta { update, show, form } => Asked::Meta {
+            PendingStore::Meta { update, show, form } => RequestRef::Meta {
                 command: MetaCommand::Update {
                     update: update.with_block(block),
                     show,

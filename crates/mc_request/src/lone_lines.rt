@@ -7,7 +7,7 @@ ghost use Rattle.mc_request.specs.Meanings.{meaning_from, keys_line, gat_line, t
 ghost use Rattle.mc_request.specs.LinesSeen.{asked_of, line_of_taken, meaning_of};
 
 use crate::faults::Fault;
-use crate::lines::{Asked, CommandLine};
+use crate::lines::{CommandLine, RequestRef};
 use crate::meta::Counting;
 use crate::names::{is_noreply, noreply_of, noreply_word};
 use crate::parts::{Direction, Update};
@@ -19,12 +19,12 @@ pub fn keys_line(exptime: Option<i64>, with_cas: bool, keys: WordIter<'_>) -> Co
     ensures { meaning_of result ≡ meaning_from None (if at_least 1 keys.entry then keys_line exptime with_cas keys.entry else Err Fault.UnknownCommand) }
 {
     if !keys.has_next() {
-        return CommandLine::Alone(Asked::Faulty(Fault::UnknownCommand));
+        return CommandLine::Alone(RequestRef::Faulty(Fault::UnknownCommand));
     }
     if !are_plain_keys(&keys) {
-        return CommandLine::Alone(Asked::Faulty(Fault::BadFormat));
+        return CommandLine::Alone(RequestRef::Faulty(Fault::BadFormat));
     }
-    CommandLine::Alone(Asked::Get {
+    CommandLine::Alone(RequestRef::Get {
         keys,
         exptime,
         with_cas,
@@ -45,14 +45,14 @@ pub fn gat_line(with_cas: bool, mut words: WordIter<'_>) -> CommandLine<'_>
     ensures { meaning_of result ≡ meaning_from None (if at_least 2 words.entry then gat_line with_cas words.entry else Err Fault.UnknownCommand) }
 {
     let Some(exptime) = words.next() else {
-        return CommandLine::Alone(Asked::Faulty(Fault::UnknownCommand));
+        return CommandLine::Alone(RequestRef::Faulty(Fault::UnknownCommand));
     };
     if !words.has_next() {
-        return CommandLine::Alone(Asked::Faulty(Fault::UnknownCommand));
+        return CommandLine::Alone(RequestRef::Faulty(Fault::UnknownCommand));
     }
     match read_i64(exptime) {
         Some(exptime) => keys_line(Some(exptime), with_cas, words),
-        None => CommandLine::Alone(Asked::Faulty(Fault::BadFormat)),
+        None => CommandLine::Alone(RequestRef::Faulty(Fault::BadFormat)),
     }
 }
 
@@ -62,19 +62,19 @@ pub fn touch_line(mut words: WordIter<'_>) -> CommandLine<'_>
     ensures { meaning_of result ≡ meaning_from None (if between 2 3 words.entry then touch_line words.entry else Err Fault.UnknownCommand) }
 {
     let (Some(key), Some(exptime)) = (words.next(), words.next()) else {
-        return CommandLine::Alone(Asked::Faulty(Fault::UnknownCommand));
+        return CommandLine::Alone(RequestRef::Faulty(Fault::UnknownCommand));
     };
     let noreply = match noreply_of(words) {
         Ok(noreply) => noreply,
-        Err(fault) => return CommandLine::Alone(Asked::Faulty(fault)),
+        Err(fault) => return CommandLine::Alone(RequestRef::Faulty(fault)),
     };
     if !is_plain_key(key) {
-        return CommandLine::Alone(Asked::Faulty(Fault::BadFormat));
+        return CommandLine::Alone(RequestRef::Faulty(Fault::BadFormat));
     }
     let Some(exptime) = read_i64(exptime) else {
-        return CommandLine::Alone(Asked::Faulty(Fault::BadFormat));
+        return CommandLine::Alone(RequestRef::Faulty(Fault::BadFormat));
     };
-    CommandLine::Alone(Asked::Update {
+    CommandLine::Alone(RequestRef::Update {
         update: Update::Touch { key, exptime },
         noreply,
     })
@@ -86,16 +86,16 @@ pub fn delete_line(mut words: WordIter<'_>) -> CommandLine<'_>
     ensures { meaning_of result ≡ meaning_from None (if between 1 3 words.entry then delete_line words.entry else Err Fault.UnknownCommand) }
 {
     let Some(key) = words.next() else {
-        return CommandLine::Alone(Asked::Faulty(Fault::UnknownCommand));
+        return CommandLine::Alone(RequestRef::Faulty(Fault::UnknownCommand));
     };
     let noreply = match noreply_after_zero(words) {
         Ok(noreply) => noreply,
-        Err(fault) => return CommandLine::Alone(Asked::Faulty(fault)),
+        Err(fault) => return CommandLine::Alone(RequestRef::Faulty(fault)),
     };
     if !is_plain_key(key) {
-        return CommandLine::Alone(Asked::Faulty(Fault::BadFormat));
+        return CommandLine::Alone(RequestRef::Faulty(Fault::BadFormat));
     }
-    CommandLine::Alone(Asked::Update {
+    CommandLine::Alone(RequestRef::Update {
         update: Update::Delete {
             key,
             compare: None,
@@ -131,13 +131,13 @@ pub fn count_line(direction: Direction, mut words: WordIter<'_>) -> CommandLine<
     ensures { meaning_of result ≡ meaning_from None (if between 2 3 words.entry then count_line direction words.entry else Err Fault.UnknownCommand) }
 {
     let (Some(key), Some(delta)) = (words.next(), words.next()) else {
-        return CommandLine::Alone(Asked::Faulty(Fault::UnknownCommand));
+        return CommandLine::Alone(RequestRef::Faulty(Fault::UnknownCommand));
     };
     let (delta, noreply) = match count_parts(key, delta, words) {
         Ok(parts) => parts,
-        Err(fault) => return CommandLine::Alone(Asked::Faulty(fault)),
+        Err(fault) => return CommandLine::Alone(RequestRef::Faulty(fault)),
     };
-    CommandLine::Alone(Asked::Update {
+    CommandLine::Alone(RequestRef::Update {
         update: Update::Count {
             key,
             counting: Counting {
@@ -173,11 +173,11 @@ pub fn flush_line(words: WordIter<'_>) -> CommandLine<'_>
     ensures { meaning_of result ≡ meaning_from None (if at_most 2 words.entry then flush_line words.entry else Err Fault.UnknownCommand) }
 {
     match flush_parts(words) {
-        Ok((delay, noreply)) => CommandLine::Alone(Asked::Update {
+        Ok((delay, noreply)) => CommandLine::Alone(RequestRef::Update {
             update: Update::FlushAll { delay },
             noreply,
         }),
-        Err(fault) => CommandLine::Alone(Asked::Faulty(fault)),
+        Err(fault) => CommandLine::Alone(RequestRef::Faulty(fault)),
     }
 }
 
@@ -205,11 +205,11 @@ fn flush_parts(mut words: WordIter<'_>) -> Result<(i64, bool), Fault>
 /// Reads a line of `version`, `quit` or `mn`, after whose name there is no word.
 #[inline(never)]
 #[tactic(auto, using(crate::proofs::LineLemmas::taken_alone))]
-pub fn bare_line<'a>(asked: Asked<'a>, mut words: WordIter<'_>) -> CommandLine<'a>
+pub fn bare_line<'a>(asked: RequestRef<'a>, mut words: WordIter<'_>) -> CommandLine<'a>
     ensures { meaning_of result ≡ meaning_from None (if at_most 0 words.entry then line_of_taken (asked_of asked.entry) else Err Fault.UnknownCommand) }
 {
     if words.next().is_some() {
-        CommandLine::Alone(Asked::Faulty(Fault::UnknownCommand))
+        CommandLine::Alone(RequestRef::Faulty(Fault::UnknownCommand))
     } else {
         CommandLine::Alone(asked)
     }

@@ -10,7 +10,7 @@ ghost use Rattle.mc_request.specs.Examples.{refused, meta, setting, nothing_show
 use crate::faults::Fault;
 use crate::meta::MetaCommand;
 use crate::names::Name;
-use crate::parts::{Direction, Request, StoreMode, Taken, Update};
+use crate::parts::{Direction, Parsed, Request, StoreMode, Update};
 
 /// Each command takes its own flags, and no others. The modes of `ms` and `ma` differ.
 pub fn flags_of_each_command()
@@ -92,7 +92,7 @@ pub fn meta_commands()
     ensures count { meaning (words (codes "ma a")) ≡ meta (MetaCommand.Update (Update.Count (codes "a") (plain_counting Direction.Up 1)) nothing_shown) false false [] }
     ensures made { meaning (words (codes "ma a N-1 J700 D500 MD T900 C300")) ≡ meta (MetaCommand.Update (Update.Count (codes "a") (record { direction = Direction.Down; delta = 500; compare = Some 300; create = Some (record { exptime = negsuc 0; initial = 700 }); exptime = Some (pos 900) })) nothing_shown) false false (codes "N-1 J700 D500 MD T900 C300") }
     ensures initial_alone { meaning (words (codes "ma a J7")) ≡ meta (MetaCommand.Update (Update.Count (codes "a") (plain_counting Direction.Up 1)) nothing_shown) false false (codes "J7") }
-    ensures noop { meaning (words (codes "mn")) ≡ Alone (Taken.Whole Request.MetaNoop) }
+    ensures noop { meaning (words (codes "mn")) ≡ Alone (Parsed.Whole Request.MetaNoop) }
 {}
 
 /// An `ms` asks for this: it sets, with client flags of 0 and an exptime of 0, if nothing else is given.

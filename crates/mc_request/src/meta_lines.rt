@@ -7,7 +7,7 @@ ghost use Rattle.mc_request.specs.LinesSeen.{storing_of, meaning_of};
 
 use crate::faults::Fault;
 use crate::flags::MetaFlags;
-use crate::lines::{Asked, CommandLine, Storing};
+use crate::lines::{CommandLine, PendingStore, RequestRef};
 use crate::meta::{MetaCommand, MetaForm};
 use crate::names::Name;
 use crate::parts::{StoreMode, Update};
@@ -19,16 +19,16 @@ pub fn mg_line(mut words: WordIter<'_>) -> CommandLine<'_>
     ensures { meaning_of result ≡ meaning_from None (if at_least 1 words.entry then mg_line words.entry else Err Fault.UnknownCommand) }
 {
     let Some(key) = words.next() else {
-        return CommandLine::Alone(Asked::Faulty(Fault::UnknownCommand));
+        return CommandLine::Alone(RequestRef::Faulty(Fault::UnknownCommand));
     };
     let mut flags = MetaFlags::fresh();
     if let Err(fault) = flags.read_all(Name::MetaGet, words.again()) {
-        return CommandLine::Alone(Asked::Faulty(fault));
+        return CommandLine::Alone(RequestRef::Faulty(fault));
     }
     if !is_key(flags.coded, key) {
-        return CommandLine::Alone(Asked::Faulty(Fault::BadFormat));
+        return CommandLine::Alone(RequestRef::Faulty(Fault::BadFormat));
     }
-    CommandLine::Alone(Asked::Meta {
+    CommandLine::Alone(RequestRef::Meta {
         command: MetaCommand::Get {
             key,
             get: flags.meta_get(),
@@ -43,16 +43,16 @@ pub fn md_line(mut words: WordIter<'_>) -> CommandLine<'_>
     ensures { meaning_of result ≡ meaning_from None (if at_least 1 words.entry then md_line words.entry else Err Fault.UnknownCommand) }
 {
     let Some(key) = words.next() else {
-        return CommandLine::Alone(Asked::Faulty(Fault::UnknownCommand));
+        return CommandLine::Alone(RequestRef::Faulty(Fault::UnknownCommand));
     };
     let mut flags = MetaFlags::fresh();
     if let Err(fault) = flags.read_all(Name::MetaDelete, words.again()) {
-        return CommandLine::Alone(Asked::Faulty(fault));
+        return CommandLine::Alone(RequestRef::Faulty(fault));
     }
     if !is_key(flags.coded, key) {
-        return CommandLine::Alone(Asked::Faulty(Fault::BadFormat));
+        return CommandLine::Alone(RequestRef::Faulty(Fault::BadFormat));
     }
-    CommandLine::Alone(Asked::Meta {
+    CommandLine::Alone(RequestRef::Meta {
         command: MetaCommand::Update {
             update: Update::Delete {
                 key,
@@ -71,16 +71,16 @@ pub fn ma_line(mut words: WordIter<'_>) -> CommandLine<'_>
     ensures { meaning_of result ≡ meaning_from None (if at_least 1 words.entry then ma_line words.entry else Err Fault.UnknownCommand) }
 {
     let Some(key) = words.next() else {
-        return CommandLine::Alone(Asked::Faulty(Fault::UnknownCommand));
+        return CommandLine::Alone(RequestRef::Faulty(Fault::UnknownCommand));
     };
     let mut flags = MetaFlags::fresh();
     if let Err(fault) = flags.read_all(Name::MetaArithmetic, words.again()) {
-        return CommandLine::Alone(Asked::Faulty(fault));
+        return CommandLine::Alone(RequestRef::Faulty(fault));
     }
     if !is_key(flags.coded, key) {
-        return CommandLine::Alone(Asked::Faulty(Fault::BadFormat));
+        return CommandLine::Alone(RequestRef::Faulty(Fault::BadFormat));
     }
-    CommandLine::Alone(Asked::Meta {
+    CommandLine::Alone(RequestRef::Meta {
         command: MetaCommand::Update {
             update: Update::Count {
                 key,
@@ -99,10 +99,10 @@ pub fn ms_line(mut words: WordIter<'_>) -> CommandLine<'_>
         (if at_least 2 words.entry then ms_line words.entry else Err Fault.UnknownCommand) }
 {
     let (Some(key), Some(len)) = (words.next(), words.next()) else {
-        return CommandLine::Alone(Asked::Faulty(Fault::UnknownCommand));
+        return CommandLine::Alone(RequestRef::Faulty(Fault::UnknownCommand));
     };
     let Some(len) = read_len(len) else {
-        return CommandLine::Alone(Asked::Faulty(Fault::BadFormat));
+        return CommandLine::Alone(RequestRef::Faulty(Fault::BadFormat));
     };
     let mut flags = MetaFlags::fresh();
     if let Err(fault) = flags.read_all(Name::MetaSet, words.again()) {
@@ -118,10 +118,10 @@ pub fn ms_line(mut words: WordIter<'_>) -> CommandLine<'_>
 }
 
 /// Returns an `ms` before its data block, by its key, its flags and their words.
-fn ms_storing<'a>(key: &'a [u8], flags: &MetaFlags, words: WordIter<'a>) -> Storing<'a>
+fn ms_storing<'a>(key: &'a [u8], flags: &MetaFlags, words: WordIter<'a>) -> PendingStore<'a>
     ensures { storing_of result ≡ ms_storing (key_bytes flags.now.coded key.now) flags.now words.entry }
 {
-    Storing::Meta {
+    PendingStore::Meta {
         update: Update::Store {
             mode: flags.mode.unwrap_or(StoreMode::Set),
             compare: flags.compare,

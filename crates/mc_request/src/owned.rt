@@ -1,7 +1,8 @@
-//! Borrowed requests, copied to be the caller's own.
-ghost use Rattle.std.specs.Prelude.{◌≡◌, ◌∷◌, ◌<◌, true, length, IfOk};
+//! Requests that are copied to be the caller's own, and their commands: the public form. A server and a proxy serve borrowed ones.
+ghost use Rattle.std.specs.Prelude.{◌≡◌, ◌∷◌, ◌<◌, [], true, length, IfOk};
 ghost use Rattle.std.specs.List.{list_all};
 ghost use Rattle.mc_text.specs.Keys.{is_plain_key};
+ghost use Rattle.mc_request.specs.Atoms.{atoms_of, gets_of};
 ghost use Rattle.mc_request.specs.Requests.{ends};
 ghost use Rattle.mc_request.specs.WellFormed.{is_well_formed, has_key, has_meta_key};
 ghost use Rattle.mc_request.specs.Parts.{update_seen, meta_said};
@@ -9,13 +10,13 @@ ghost use Rattle.mc_request.specs.LinesSeen.{asked_of};
 
 use crate::hides::{Hides, quiet_hides};
 use crate::keys::Keys;
-use crate::lines::Asked;
+use crate::lines::RequestRef;
 use crate::meta::{FlagWords, MetaCommand, MetaForm, key_bytes};
-use crate::parts::{ReadError, Request, Taken, Update};
+use crate::parts::{Atom, Parsed, ReadError, Request, Update};
 use mc_text::{Block, CODED_ROOM, Key, WordIter};
 use std::alloc::Global;
 
-impl Asked<'_> {
+impl RequestRef<'_> {
     ghost use Rattle.mc_request.specs.Hides.{hides_taken};
 
     /// Returns whether nothing is read after it.
@@ -23,8 +24,8 @@ impl Asked<'_> {
         ensures { result ≡ ends (asked_of self.now) }
     {
         match self {
-            Asked::Quit => true,
-            Asked::Faulty(fault) => fault.closes(),
+            RequestRef::Quit => true,
+            RequestRef::Faulty(fault) => fault.closes(),
             _ => false,
         }
     }
@@ -34,20 +35,20 @@ impl Asked<'_> {
         ensures { result ≡ hides_taken (asked_of self.now) }
     {
         match self {
-            Asked::Update { noreply: true, .. } => Hides::ReplyLine,
-            Asked::Meta { command, form } => quiet_hides(command, form.quiet),
+            RequestRef::Update { noreply: true, .. } => Hides::ReplyLine,
+            RequestRef::Meta { command, form } => quiet_hides(command, form.quiet),
             _ => Hides::Nothing,
         }
     }
 
     /// Returns an owned request or fault: its keys and its block are copied.
-    pub fn taken(self, alloc: Global) -> Result<Taken, ReadError>
+    pub fn taken(self, alloc: Global) -> Result<Parsed, ReadError>
         requires { is_well_formed (asked_of self) ≡ true }
         ensures { IfOk result (λ taken. taken ≡ asked_of self.entry) }
     {
-        Ok(Taken::Whole(match self {
-            Asked::Faulty(fault) => return Ok(Taken::Faulty(fault)),
-            Asked::Get {
+        Ok(Parsed::Whole(match self {
+            RequestRef::Faulty(fault) => return Ok(Parsed::Faulty(fault)),
+            RequestRef::Get {
                 keys,
                 exptime,
                 with_cas,
@@ -56,17 +57,17 @@ impl Asked<'_> {
                 exptime,
                 with_cas,
             },
-            Asked::Update { update, noreply } => Request::Update {
+            RequestRef::Update { update, noreply } => Request::Update {
                 update: update.owned(alloc)?,
                 noreply,
             },
-            Asked::Meta { command, form } => Request::Meta {
+            RequestRef::Meta { command, form } => Request::Meta {
                 command: command.owned(alloc, form.coded)?,
                 form: form.owned(alloc)?,
             },
-            Asked::MetaNoop => Request::MetaNoop,
-            Asked::Version => Request::Version,
-            Asked::Quit => Request::Quit,
+            RequestRef::MetaNoop => Request::MetaNoop,
+            RequestRef::Version => Request::Version,
+            RequestRef::Quit => Request::Quit,
         }))
     }
 }
@@ -161,4 +162,54 @@ pub fn keys_of(alloc: Global, mut words: WordIter<'_>) -> Result<Keys, ReadError
         keys.push(Key::of_bytes(alloc, word)?)?;
     }
     Ok(keys)
+}
+
+impl Request {
+    /// Returns the commands that the request stands for, in order: one for each key of a retrieval command,
+    /// none for `mn`, `version` and `quit`.
+    ///
+    /// The keys and blocks are copied.
+    pub fn atoms(&self, alloc: Global) -> Result<Vec<Atom<Block>>, ReadError>
+        ensures { IfOk result (λ atoms. atoms.items ≡ atoms_of self.now) }
+    {
+        match self {
+            Request::Get {
+                keys,
+                exptime,
+                with_cas,
+            } => get_atoms(alloc, keys, *exptime, *with_cas),
+            Request::Update { update, .. } => one_atom(alloc, Atom::Update(update.clone()?)),
+            Request::Meta { command, .. } => one_atom(alloc, Atom::Meta(command.clone()?)),
+            Request::MetaNoop | Request::Version | Request::Quit => Ok(Vec::new(alloc)),
+        }
+    }
+}
+
+/// Returns the commands of a retrieval command, one for each key.
+fn get_atoms(
+    alloc: Global,
+    keys: &Keys,
+    exptime: Option<i64>,
+    with_cas: bool,
+) -> Result<Vec<Atom<Block>>, ReadError>
+    ensures { IfOk result (λ atoms. atoms.items ≡ gets_of exptime with_cas keys.now) }
+{
+    let mut atoms = Vec::with_capacity(alloc, keys.len())?;
+    for at in 0..keys.len() {
+        atoms.push(Atom::Get {
+            key: keys.key(at).clone()?,
+            exptime,
+            with_cas,
+        })?;
+    }
+    Ok(atoms)
+}
+
+/// Returns a list of one command.
+fn one_atom(alloc: Global, atom: Atom<Block>) -> Result<Vec<Atom<Block>>, ReadError>
+    ensures { IfOk result (λ atoms. atoms.items ≡ atom ∷ []) }
+{
+    let mut atoms = Vec::with_capacity(alloc, 1)?;
+    atoms.push(atom)?;
+    Ok(atoms)
 }

@@ -12,9 +12,9 @@ use Rattle.mc_text.specs.Lines.{line_end, first_line, Whole}
 use Rattle.mc_text.proofs.PlaceLemmas.{position_some, position_at}
 use Rattle.mc_text.proofs.LineLemmas.{line_end_inside, first_line_whole, first_line-at}
 use Rattle.std.specs.Str.Lines.{strip_carriage_return}
-use Rattle.mc_request.specs.Meanings.{Meaning, Storing, Stores}
+use Rattle.mc_request.specs.Meanings.{Meaning, PendingStore, Stores}
 use Rattle.mc_request.specs.Requests.{taken_by, with_block, next_request, requests_of, requests_within, ends}
-use Rattle.mc_request.specs.declared.parts.Taken.{Taken}
+use Rattle.mc_request.specs.declared.parts.Parsed.{Parsed}
 use Rattle.mc_request_reader.specs.declared.peeks.Front.{Front}
 use Rattle.mc_request_reader.specs.Steps.{StartsBy}
 use Rattle.mc_request_reader.specs.Reader.{ReaderState, fresh_reader, rest_of, KeepsRest, KeepsLittle}
@@ -64,7 +64,7 @@ drop_whole (b ∷ bs) after = drop_whole bs after
 pub next_by_line : (line after : List ℕ) (m : Meaning) → StartsBy line m (length line) → next_request (line ++ after) ≡ taken_by m (length line) after
 next_by_line line after m h = h.next after ∙ ap (λ (rest : List ℕ). taken_by m (length line) rest) (drop_whole line after)
 
-stores_whole_after : (s : Storing) (n len : ℕ) (after : List ℕ) → len + 2 ≤ length after
+stores_whole_after : (s : PendingStore) (n len : ℕ) (after : List ℕ) → len + 2 ≤ length after
     → taken_by (Stores s len) n after ≡ Some (with_block s (take len after) (take 2 (drop len after)), n + (len + 2))
 stores_whole_after s n len after enough = let test : nat_lt (length after) (len + 2) ≡ false = grind (arith, enough) in rw test refl
 
@@ -121,7 +121,7 @@ rest_beside line after wanted front new h shown rest unclosed =
       closed = unclosed;
     })
 
-first_is : (ts : List Taken) → (ts ≡ [] → ⊥) → 0 < length ts
+first_is : (ts : List Parsed) → (ts ≡ [] → ⊥) → 0 < length ts
 first_is [] some = absurd (some refl)
 first_is (t ∷ ts) some = omega arith
 
@@ -129,13 +129,13 @@ pub alone_beside : (line after : List ℕ) (wanted : ℕ) → Announces line wan
 alone_beside line after wanted h enough = first_is (rest_of (joined line after) []) (whole_is_first (joined line after) refl refl (whole_beside line after wanted h enough))
 
 -- all that has arrived is consumed
-pub first_beside : (line after : List ℕ) (x : Taken) → next_request (line ++ after) ≡ Some (x, length (line ++ after)) → ends x ≡ false → IsFirst (joined line after) x fresh_reader
+pub first_beside : (line after : List ℕ) (x : Parsed) → next_request (line ++ after) ≡ Some (x, length (line ++ after)) → ends x ≡ false → IsFirst (joined line after) x fresh_reader
 first_beside line after x e goes_on =
     let shows = shows_whole (joined line after) x (record { size = length (line ++ after); closes = false }) refl refl (sym goes_on) e in
     record { rest = λ text. shows.first.rest text ∙ ap (λ (bytes : List ℕ). x ∷ requests_of bytes) (drop_whole (line ++ after) text) }
 
 -- a `set` by itself is what its line asks for
-pub set_known : (line after : List ℕ) (s : Storing) (len : ℕ) (r : Option TakenSet) → StartsBy line (Stores s len) (length line)
+pub set_known : (line after : List ℕ) (s : PendingStore) (len : ℕ) (r : Option TakenSet) → StartsBy line (Stores s len) (length line)
     → IfSome r (λ set. length after ≡ len + 2)
     → IfSome r (λ set. with_block s (take len after) (take 2 (drop len after)) ≡ set_with set (take len after))
     → IfSome r (λ set. next_request (line ++ after) ≡ Some (set_with set (take (length after - 2) after), length (line ++ after)))
@@ -150,7 +150,7 @@ fresh_rest : rest_of fresh_reader [] ≡ []
 unfolding requests_of requests_within
 fresh_rest = refl
 
-none_shown : (s : ReaderState) (what : Taken) (front : Front) → s ≡ fresh_reader → Shows s what front → ⊥
+none_shown : (s : ReaderState) (what : Parsed) (front : Front) → s ≡ fresh_reader → Shows s what front → ⊥
 none_shown s what front fresh shows =
     let none : rest_of s [] ≡ [] = ap (λ (r : ReaderState). rest_of r []) fresh ∙ fresh_rest in
     let first = sym none ∙ shows.first.rest [] in
@@ -164,8 +164,8 @@ get_shown (Some apart) others None idle seen = tt
 get_shown (Some apart) others (Some get) idle seen = absurd (none_shown others (get_of get) get.front idle.0 seen)
 
 pub line_shown : (apart : Option ReaderState) (others : ReaderState) (line : Option LentLine) → IsIdleWhile apart others
-    → IfSome line (λ line. (what : Taken) → IsAlone line what → Shows others what (front_by line what))
-    → IfSome line (λ line. (what : Taken) → IsAlone line what → Shows (state_by apart others) what (front_by line what))
+    → IfSome line (λ line. (what : Parsed) → IsAlone line what → Shows others what (front_by line what))
+    → IfSome line (λ line. (what : Parsed) → IsAlone line what → Shows (state_by apart others) what (front_by line what))
 line_shown None others line idle seen = seen
 line_shown (Some apart) others None idle seen = tt
 line_shown (Some apart) others (Some line) idle seen = λ what alone. absurd (none_shown others what (front_by line what) idle.0 (seen what alone))

@@ -6,8 +6,8 @@ use Rattle.std.proofs.Math.Seq.{drop-append-add}
 use Rattle.mc_text.specs.Lines.{HasNoLineFeed}
 use Rattle.mc_text.proofs.LineLemmas.{line_end-more, first_line_too_long-more}
 use Rattle.mc_request.specs.declared.faults.Fault.{Fault}
-use Rattle.mc_request.specs.declared.parts.Taken.{Taken}
-use Rattle.mc_request.specs.declared.parts.Taken.TheVariants.{Faulty}
+use Rattle.mc_request.specs.declared.parts.Parsed.{Parsed}
+use Rattle.mc_request.specs.declared.parts.Parsed.TheVariants.{Faulty}
 use Rattle.mc_request_reader.specs.declared.peeks.Front.{Front}
 use Rattle.mc_request.specs.Faults.{closes}
 use Rattle.mc_request_reader.specs.declared.searched.Searched.{Searched}
@@ -26,14 +26,14 @@ after_taken true bytes = refl
 after_taken false bytes = refl
 
 -- a look at a whole request or fault
-pub shows_whole : (s : ReaderState) (x : Taken) (front : Front) → s.closed ≡ false → s.dropping ≡ None → front.closes ≡ ends x → next_request s.unread ≡ Some (x, front.size) → Shows s x front
+pub shows_whole : (s : ReaderState) (x : Parsed) (front : Front) → s.closed ≡ false → s.dropping ≡ None → front.closes ≡ ends x → next_request s.unread ≡ Some (x, front.size) → Shows s x front
 shows_whole s x front unclosed none closes_is e = record {
   front_is = rw (unclosed, none, e, closes_is) refl;
   closes = closes_is;
-  first = record { rest = λ text. rw (unclosed, none, closes_is) (takes s.unread (x, front.size) e text ∙ ap (λ (ts : List Taken). x ∷ ts) (after_taken (ends x) (drop front.size s.unread ++ text))) };
+  first = record { rest = λ text. rw (unclosed, none, closes_is) (takes s.unread (x, front.size) e text ∙ ap (λ (ts : List Parsed). x ∷ ts) (after_taken (ends x) (drop front.size s.unread ++ text))) };
 }
 
-first_size : (dropping : Option (Fault × ℕ)) (unread : List ℕ) (x : Taken × ℕ) → first_by dropping unread ≡ Some x → x.1 ≤ length unread
+first_size : (dropping : Option (Fault × ℕ)) (unread : List ℕ) (x : Parsed × ℕ) → first_by dropping unread ≡ Some x → x.1 ≤ length unread
 first_size None unread x e = (next_request-size unread x e).1
 first_size (Some d) unread x e = grind (arith, nat_lt, given)
 
@@ -42,10 +42,10 @@ passed : {A : Type 0} (b : Bool) (o : Option A) (y : A) → (if b then None else
 passed true o y e = absurd cc
 passed false o y e = e
 
-abbrev front_at : Taken × ℕ → Front
+abbrev front_at : Parsed × ℕ → Front
 front_at x = record { size = x.1; closes = ends x.0 }
 
-front_size_by : (dropping : Option (Fault × ℕ)) (unread : List ℕ) (o : Option (Taken × ℕ)) (front : Front) → first_by dropping unread ≡ o
+front_size_by : (dropping : Option (Fault × ℕ)) (unread : List ℕ) (o : Option (Parsed × ℕ)) (front : Front) → first_by dropping unread ≡ o
     → option_map front_at o ≡ Some front → front.size ≤ length unread
 front_size_by dropping unread None front e is = absurd cc
 front_size_by dropping unread (Some x) front e is = grind (arith, first_size)
@@ -73,7 +73,7 @@ sure_more wanted u more h rest enough = rw append_assoc (h (more ++ rest) (rw ap
 not_none : {A : Type 0} {x : A} {xs : List A} → x ∷ xs ≡ [] → ⊥
 not_none e = cc
 
-from_whole : (o : Option (Taken × ℕ)) (text : List ℕ) → is_some o ≡ true → requests_from o text requests_of ≡ [] → ⊥
+from_whole : (o : Option (Parsed × ℕ)) (text : List ℕ) → is_some o ≡ true → requests_from o text requests_of ≡ [] → ⊥
 from_whole None text some e = cc
 from_whole (Some x) text some e = cc
 
@@ -134,7 +134,7 @@ pub piece_dropped : (u new piece kept : List ℕ) (f : Fault) (left k : ℕ) (te
     → rest_from false (Some (f, left - k)) (new ++ text) ≡ rest_from false (Some (f, left)) (u ++ (piece ++ text))
 piece_dropped u new piece kept f left k text empty k_is new_is kept_is = rw (new_is, kept_is) (dropped f left k u piece text empty k_is)
 
-ready_from : (o : Option (Taken × ℕ)) (text : List ℕ) (rest : List Taken) (b : Bool) → rest ≡ requests_from o text requests_of → b ≡ is_some o → (IsTrue b → 0 < length rest) × (0 < length rest → IsTrue b)
+ready_from : (o : Option (Parsed × ℕ)) (text : List ℕ) (rest : List Parsed) (b : Bool) → rest ≡ requests_from o text requests_of → b ≡ is_some o → (IsTrue b → 0 < length rest) × (0 < length rest → IsTrue b)
 ready_from None text rest b e is = (λ t. absurd cc, λ lt. let none : length rest ≡ 0 = rw e refl in absurd (omega (arith, none, lt)))
 ready_from (Some x) text rest b e is = grind arith
 
@@ -144,12 +144,12 @@ ready_by s b unclosed none is =
     ready_from (next_request s.unread) s.unread (rest_of s []) b (rw (unclosed, none, append-nil) (requests-step s.unread)) is
 
 -- what a look showed is the first, once it is taken
-pub shown_is_first : (old : ReaderState) (what : Taken) (front : Front) (new : ReaderState) → Shows old what front → KeepsRest (past front old) new → IsFirst old what new
-shown_is_first old what front new shows keeps = record { rest = λ text. shows.first.rest text ∙ ap (λ (ts : List Taken). what ∷ ts) (sym (keeps.rest text)) }
+pub shown_is_first : (old : ReaderState) (what : Parsed) (front : Front) (new : ReaderState) → Shows old what front → KeepsRest (past front old) new → IsFirst old what new
+shown_is_first old what front new shows keeps = record { rest = λ text. shows.first.rest text ∙ ap (λ (ts : List Parsed). what ∷ ts) (sym (keeps.rest text)) }
 
-pub shown_closes : (old : ReaderState) (what : Taken) (front : Front) (new : ReaderState) → Shows old what front → KeepsRest (past front old) new → new.closed ≡ ends what
+pub shown_closes : (old : ReaderState) (what : Parsed) (front : Front) (new : ReaderState) → Shows old what front → KeepsRest (past front old) new → new.closed ≡ ends what
 shown_closes old what front new shows keeps = keeps.closed ∙ shows.closes
 
 -- what a look showed is still first
-pub shown_waits : (s : ReaderState) (what : Taken) (front : Front) → Shows s what front → rest_of s [] ≡ what ∷ rest_of (past front s) []
+pub shown_waits : (s : ReaderState) (what : Parsed) (front : Front) → Shows s what front → rest_of s [] ≡ what ∷ rest_of (past front s) []
 shown_waits s what front shows = shows.first.rest []

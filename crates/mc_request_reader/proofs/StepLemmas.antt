@@ -6,15 +6,15 @@ use Rattle.mc_text.specs.Lines as lines
 use Rattle.mc_text.specs.Lines.{first_line, line_end}
 use Rattle.mc_text.specs.Words.{words}
 use Rattle.mc_text.proofs.LineLemmas.{first_line_whole, first_line_whole-size, first_line_whole-limit, first_line_whole-more}
-use Rattle.mc_request.specs.Meanings.{Meaning, Storing, Alone, Stores, Refuses, meaning}
+use Rattle.mc_request.specs.Meanings.{Meaning, PendingStore, Alone, Stores, Refuses, meaning}
 use Rattle.mc_request.proofs.RequestLemmas.{next_from, next_request-more}
 use Rattle.mc_request.proofs.WellFormedLemmas.{block_in}
 use Rattle.mc_request_reader.specs.Steps.{StartsBy, IsShortOf, IsWholeFrom}
 use Rattle.mc_request.specs.Requests.{taken_by, with_block, next_request}
 use Rattle.mc_request.specs.declared.faults.Fault.{Fault}
 use Rattle.mc_request.specs.declared.faults.Fault.TheVariants.{LineTooLong}
-use Rattle.mc_request.specs.declared.parts.Taken.{Taken}
-use Rattle.mc_request.specs.declared.parts.Taken.TheVariants.{Faulty}
+use Rattle.mc_request.specs.declared.parts.Parsed.{Parsed}
+use Rattle.mc_request.specs.declared.parts.Parsed.TheVariants.{Faulty}
 
 -- a line that has not arrived whole
 pub partial_none : (u : List ℕ) → first_line u ≡ lines.Partial → next_request u ≡ None
@@ -54,26 +54,26 @@ pub refused : (u : List ℕ) (line : ℕ) (f : Fault) (len : ℕ) → StartsBy u
 refused u line f len h more = h.next more ∙ rw (block_test u more line len h.size) refl
 
 -- a block that has not arrived whole, and goes on
-pub stores_short : (u : List ℕ) (line : ℕ) (s : Storing) (len : ℕ) → StartsBy u (Stores s len) line → IsShortOf (line + (len + 2)) u
+pub stores_short : (u : List ℕ) (line : ℕ) (s : PendingStore) (len : ℕ) → StartsBy u (Stores s len) line → IsShortOf (line + (len + 2)) u
 stores_short u line s len h more short = grind (arith, nat_lt, block_test)
 
 -- a whole block
-pub stores_whole : (u : List ℕ) (line : ℕ) (s : Storing) (len : ℕ) → StartsBy u (Stores s len) line → line + (len + 2) ≤ length u
+pub stores_whole : (u : List ℕ) (line : ℕ) (s : PendingStore) (len : ℕ) → StartsBy u (Stores s len) line → line + (len + 2) ≤ length u
     → next_request u ≡ Some (with_block s (take len (drop line u)) (take 2 (drop len (drop line u))), line + (len + 2))
 stores_whole u line s len h enough =
     let test : nat_lt (length (drop line u)) (len + 2) ≡ false = grind (arith, length-drop line u, enough) in
     starts_now u (Stores s len) line h ∙ rw test refl
 
 -- a block that has not arrived whole
-pub stores_waits : (u : List ℕ) (line : ℕ) (s : Storing) (len : ℕ) → StartsBy u (Stores s len) line → length u < line + (len + 2) → next_request u ≡ None
+pub stores_waits : (u : List ℕ) (line : ℕ) (s : PendingStore) (len : ℕ) → StartsBy u (Stores s len) line → length u < line + (len + 2) → next_request u ≡ None
 stores_waits u line s len h short =
     ap next_request (sym (append-nil u)) ∙ stores_short u line s len h [] (rw append-nil short)
 
-pub come_by : (o : Option (Taken × ℕ)) (n size : ℕ) → (n < size → o ≡ None) → (size ≤ n → is_some o ≡ true) → nat_le size n ≡ is_some o
+pub come_by : (o : Option (Parsed × ℕ)) (n size : ℕ) → (n < size → o ≡ None) → (size ≤ n → is_some o ≡ true) → nat_le size n ≡ is_some o
 come_by o n size short whole = grind (arith, nat_le, cases_lt)
 
 -- whether a block has arrived whole, refused or not
-pub stores_come : (u : List ℕ) (line : ℕ) (s : Storing) (len : ℕ) → StartsBy u (Stores s len) line → nat_le (line + (len + 2)) (length u) ≡ is_some (next_request u)
+pub stores_come : (u : List ℕ) (line : ℕ) (s : PendingStore) (len : ℕ) → StartsBy u (Stores s len) line → nat_le (line + (len + 2)) (length u) ≡ is_some (next_request u)
 stores_come u line s len h =
     come_by (next_request u) (length u) (line + (len + 2)) (stores_waits u line s len h) (λ enough. rw (stores_whole u line s len h enough) refl)
 
@@ -96,7 +96,7 @@ pub refuses_whole : (u : List ℕ) (line : ℕ) (f : Fault) (len : ℕ) → Star
 refuses_whole u line f len h enough =
     let test : nat_lt (length u) (line + (len + 2)) ≡ false = grind (arith, enough) in refused_now u line f len h ∙ rw test refl
 
-whole_by : (o : Option (Taken × ℕ)) (u more : List ℕ) → next_request u ≡ o → is_some o ≡ true → is_some (next_request (u ++ more)) ≡ true
+whole_by : (o : Option (Parsed × ℕ)) (u more : List ℕ) → next_request u ≡ o → is_some o ≡ true → is_some (next_request (u ++ more)) ≡ true
 whole_by None u more e some = absurd cc
 whole_by (Some x) u more e some = rw (next_request-more u more x e) refl
 
@@ -109,7 +109,7 @@ pub whole_from : (u : List ℕ) (wanted : ℕ) → is_some (next_request u) ≡ 
 whole_from u wanted some more enough = whole_more u more some
 
 -- a block that has not arrived whole is whole with its last byte
-pub stores_from : (u : List ℕ) (line : ℕ) (s : Storing) (len : ℕ) → StartsBy u (Stores s len) line → IsWholeFrom (line + (len + 2)) u
+pub stores_from : (u : List ℕ) (line : ℕ) (s : PendingStore) (len : ℕ) → StartsBy u (Stores s len) line → IsWholeFrom (line + (len + 2)) u
 stores_from u line s len h more enough = grind (arith, nat_lt, block_test)
 
 -- if nothing is whole, nothing is before another byte has arrived
@@ -129,11 +129,11 @@ block_has_come u line (Stores s n) len h block = let same : n ≡ len = cc in rw
 block_has_come u line (Refuses f n) len h block = let same : n ≡ len = cc in rw (← same) (refuses_come u line f n h)
 
 -- what is not whole has not arrived
-pub not_come : (o : Option (Taken × ℕ)) → is_some o ≡ false → o ≡ None
+pub not_come : (o : Option (Parsed × ℕ)) → is_some o ≡ false → o ≡ None
 not_come None h = refl
 not_come (Some x) h = absurd cc
 
-short_of : (o : Option (Taken × ℕ)) (n size : ℕ) → o ≡ None → nat_le size n ≡ is_some o → n < size
+short_of : (o : Option (Parsed × ℕ)) (n size : ℕ) → o ≡ None → nat_le size n ≡ is_some o → n < size
 short_of o n size none is = let short : nat_le size n ≡ false = is ∙ rw none refl in grind (arith, short)
 
 -- a block that has not arrived whole is after what has arrived

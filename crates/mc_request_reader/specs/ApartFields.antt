@@ -2,7 +2,7 @@
 use Rattle.std.specs.Prelude.{ℕ, ◌≡◌, ◌+◌, ◌-◌, ◌<◌, ◌≤◌, List, ◌++◌, length, false, Some, None}
 use Rattle.std.specs.Option.{option_map}
 use Rattle.mc_text.specs.Lines.{line_end}
-use Rattle.mc_request.specs.declared.parts.Taken.{Taken}
+use Rattle.mc_request.specs.declared.parts.Parsed.{Parsed}
 use Rattle.mc_request.specs.Requests.{next_request, ends}
 use Rattle.mc_request_reader.specs.declared.peeks.Front.{Front}
 use Rattle.mc_request_reader.specs.declared.peeks.TakenSet.{TakenSet}
@@ -16,7 +16,7 @@ pub record IsLine (line : List ℕ) : Type 0 where
   pub ends : line_end line ≡ Some (length line - 1)
 
 -- where the first of a text ends
-abbrev pub front_at : Taken × ℕ → Front
+abbrev pub front_at : Parsed × ℕ → Front
 front_at x = record { size = x.1; closes = ends x.0 }
 
 -- a line that announces a data block: with the line end after the block, this many bytes are wanted after the line
@@ -38,5 +38,5 @@ abbrev pub begun_by : List ℕ → ReaderState
 begun_by piece = record { unread = piece; dropping = None; closed = false; held = length piece }
 
 -- a `set` with this data block in place of its own
-abbrev pub set_with : TakenSet → List ℕ → Taken
+abbrev pub set_with : TakenSet → List ℕ → Parsed
 set_with set block = set_of (record set { block = block })

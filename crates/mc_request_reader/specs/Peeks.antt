@@ -2,8 +2,8 @@
 use Rattle.std.specs.Prelude.{ℕ, ◌≡◌, nat_lt, true, false, List, [], ◌∷◌, drop, Option, Some, None, if◌then◌else◌}
 use Rattle.std.specs.Option.{option_map}
 use Rattle.mc_request.specs.declared.faults.Fault.{Fault}
-use Rattle.mc_request.specs.declared.parts.Taken.{Taken}
-use Rattle.mc_request.specs.declared.parts.Taken.TheVariants.{Whole, Faulty}
+use Rattle.mc_request.specs.declared.parts.Parsed.{Parsed}
+use Rattle.mc_request.specs.declared.parts.Parsed.TheVariants.{Whole, Faulty}
 use Rattle.mc_request.specs.declared.parts.Request.TheVariants.{Get, Update}
 use Rattle.mc_request.specs.declared.parts.StoreMode.TheVariants.{Set}
 use Rattle.mc_request.specs.declared.parts.Update.TheVariants.{Store}
@@ -28,7 +28,7 @@ abbrev pub past : Front → ReaderState → ReaderState
 past front s = record s { unread = drop front.size s.unread; dropping = None; closed = front.closes }
 
 -- the first that a reader has, whatever text follows, and the reader that has the others
-pub record IsFirst (old : ReaderState) (taken : Taken) (new : ReaderState) : Type 0 where
+pub record IsFirst (old : ReaderState) (taken : Parsed) (new : ReaderState) : Type 0 where
   pub rest : (text : List ℕ) → rest_of old text ≡ taken ∷ rest_of new text
 
 -- it has none yet, and nothing is lost
@@ -39,7 +39,7 @@ pub record HasNone (old new : ReaderState) : Type 0 where
   pub rest : (text : List ℕ) → rest_of new text ≡ rest_of old text
 
 -- what is first if nothing is closed, and how many bytes it takes: it is whole, or its block was dropped
-abbrev pub first_by : Option (Fault × ℕ) → List ℕ → Option (Taken × ℕ)
+abbrev pub first_by : Option (Fault × ℕ) → List ℕ → Option (Parsed × ℕ)
 first_by None unread = next_request unread
 first_by (Some d) unread = if nat_lt 0 d.1 then None else Some (Faulty d.0, 0)
 
@@ -49,7 +49,7 @@ front_of s =
     if s.closed then None else option_map (λ x. record { size = x.1; closes = ends x.0 }) (first_by s.dropping s.unread)
 
 -- the first that a reader has, and where it ends
-pub record Shows (s : ReaderState) (taken : Taken) (front : Front) : Type 0 where
+pub record Shows (s : ReaderState) (taken : Parsed) (front : Front) : Type 0 where
   pub front_is : front_of s ≡ Some front
   pub closes : front.closes ≡ ends taken
   pub first : IsFirst s taken (past front s)
@@ -74,17 +74,17 @@ Gives old nexts.More new = HasNone old new
 Gives old nexts.Closed new = (old.closed ≡ true) × (new ≡ old)
 
 -- the request that a look at a retrieval shows
-abbrev pub get_of : LentGet → Taken
+abbrev pub get_of : LentGet → Parsed
 get_of get = Whole (Get get.keys None get.with_cas)
 
 -- the request that a `set` is
-abbrev pub set_of : TakenSet → Taken
+abbrev pub set_of : TakenSet → Parsed
 set_of set = Whole (Update (Store Set None set.key set.flags set.exptime set.block) set.noreply)
 
 -- a line asks for this, and no data block follows it
-abbrev pub IsAlone : LentLine → Taken → Type 0
+abbrev pub IsAlone : LentLine → Parsed → Type 0
 IsAlone line what = meaning (words line.content.now) ≡ Alone what
 
 -- where what a line asks for ends
-abbrev pub front_by : LentLine → Taken → Front
+abbrev pub front_by : LentLine → Parsed → Front
 front_by line what = record { size = line.size; closes = ends what }

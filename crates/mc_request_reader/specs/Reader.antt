@@ -1,8 +1,8 @@
 -- What a reader stands for: a function of the text still to arrive.
 use Rattle.std.specs.Prelude.{ℕ, ◌≡◌, ◌<◌, ◌≤◌, ◌*◌, ◌-◌, Bool, true, false, nat_lt, List, [], ◌∷◌, ◌++◌, length, drop, Option, Some, None, if◌then◌else◌}
 use Rattle.mc_request.specs.declared.faults.Fault.{Fault}
-use Rattle.mc_request.specs.declared.parts.Taken.{Taken}
-use Rattle.mc_request.specs.declared.parts.Taken.TheVariants.{Faulty}
+use Rattle.mc_request.specs.declared.parts.Parsed.{Parsed}
+use Rattle.mc_request.specs.declared.parts.Parsed.TheVariants.{Faulty}
 use Rattle.mc_request_reader.specs.declared.peeks.TheConstants.{REQUEST_LIMIT}
 use Rattle.mc_request.specs.Requests.{requests_of}
 
@@ -22,13 +22,13 @@ abbrev pub fresh_reader : ReaderState
 fresh_reader = record { unread = []; dropping = None; closed = false; held = 0 }
 
 -- the requests and faults of bytes, the first of which may be dropped
-abbrev pub rest_from : Bool → Option (Fault × ℕ) → List ℕ → List Taken
+abbrev pub rest_from : Bool → Option (Fault × ℕ) → List ℕ → List Parsed
 rest_from true dropping bytes = []
 rest_from false None bytes = requests_of bytes
 rest_from false (Some d) bytes = if nat_lt (length bytes) d.1 then [] else Faulty d.0 ∷ requests_of (drop d.1 bytes)
 
 -- what a reader will return, if this text arrives
-abbrev pub rest_of : ReaderState → List ℕ → List Taken
+abbrev pub rest_of : ReaderState → List ℕ → List Parsed
 rest_of s text = rest_from s.closed s.dropping (s.unread ++ text)
 
 -- another reader returns what this one would

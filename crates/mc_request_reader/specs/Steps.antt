@@ -3,9 +3,9 @@ use Rattle.std.specs.Prelude.{ℕ, ◌≡◌, ◌<◌, ◌≤◌, Bool, true, fa
 use Rattle.mc_text.specs.Lines.{HasNoLineFeed, TooLong, first_line, line_end}
 use Rattle.mc_text.specs.declared.lines.TheConstants.{LINE_LIMIT}
 use Rattle.mc_request.specs.LinesSeen.{asked_of}
-use Rattle.mc_request.specs.declared.lines.Asked.{Asked}
-use Rattle.mc_request.specs.declared.parts.Taken.{Taken}
-use Rattle.mc_request.specs.declared.parts.Taken.TheVariants as takens
+use Rattle.mc_request.specs.declared.lines.RequestRef.{RequestRef}
+use Rattle.mc_request.specs.declared.parts.Parsed.{Parsed}
+use Rattle.mc_request.specs.declared.parts.Parsed.TheVariants as takens
 use Rattle.mc_request_reader.specs.declared.peeks.TheConstants.{REQUEST_LIMIT}
 use Rattle.mc_request_reader.specs.declared.searched.Searched.{Searched}
 use Rattle.mc_request_reader.specs.declared.searched.Searched.TheVariants as searches
@@ -51,6 +51,6 @@ pub record StartsBy (unread : List ℕ) (m : Meaning) (line : ℕ) : Type 0 wher
   pub next : (more : List ℕ) → next_request (unread ++ more) ≡ taken_by m line (drop line unread ++ more)
 
 -- what is borrowed, as the request or fault that it is, with the bytes that it takes
-abbrev pub lent_seen : Option (Asked × ℕ) → Option (Taken × ℕ)
+abbrev pub lent_seen : Option (RequestRef × ℕ) → Option (Parsed × ℕ)
 lent_seen None = None
 lent_seen (Some lent) = Some (asked_of lent.0, lent.1)

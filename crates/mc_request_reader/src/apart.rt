@@ -107,7 +107,7 @@ impl Apart {
         ensures seen { Peeks self.now result }
         ensures well_formed { IsWellFormedPeek result }
     {
-        if self.is_short() {
+        if self.needs_more() {
             return Peek::More;
         }
         match asked_beside(self.line.as_slice(), self.block.as_slice()) {
@@ -149,7 +149,7 @@ impl Apart {
     }
 
     /// Returns whether it is known that nothing is whole until more bytes arrive. It reads no byte.
-    pub fn is_short(&self) -> bool
+    pub fn needs_more(&self) -> bool
         ensures { result ≡ true → HasNone self.now self.now }
     {
         self.block.len() < self.wanted

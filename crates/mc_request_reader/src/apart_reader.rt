@@ -45,7 +45,7 @@ impl Model for ApartReader {
 impl ApartReader {
     ghost use Rattle.mc_request.specs.Requests.{ends};
     ghost use Rattle.mc_request.specs.WellFormed.{is_well_formed};
-    ghost use Rattle.mc_request.specs.declared.parts.Taken.{Taken};
+    ghost use Rattle.mc_request.specs.declared.parts.Parsed.{Parsed};
     ghost use Rattle.mc_request_reader.specs.Reader.{rest_of, kept_of};
     ghost use Rattle.mc_request_reader.specs.Peeks.{Peeks, Shows, HasNone, IsAlone, IsFirst, IsWellFormedPeek, front_by, get_of, set_of};
 
@@ -147,14 +147,14 @@ impl ApartReader {
         self.reader.peek_get()
     }
 
-    /// Borrows the first line, if its end is known and it begins like no storage command, as [`Reader::peek_lone`] does.
+    /// Borrows the first line, if its end is known and it begins like no storage command, as [`Reader::peek_blockless`] does.
     #[inline(always)]
-    pub fn peek_lone(&self) -> Option<LentLine<'_>>
-        ensures seen { IfSome result (λ line. (what : Taken) → IsAlone line what → Shows self.now what (front_by line what)) }
-        ensures well_formed { IfSome result (λ line. (what : Taken) → IsAlone line what → is_well_formed what ≡ true) }
+    pub fn peek_blockless(&self) -> Option<LentLine<'_>>
+        ensures seen { IfSome result (λ line. (what : Parsed) → IsAlone line what → Shows self.now what (front_by line what)) }
+        ensures well_formed { IfSome result (λ line. (what : Parsed) → IsAlone line what → is_well_formed what ≡ true) }
         ensures little { KeepsLittle self.now }
     {
-        self.reader.peek_lone()
+        self.reader.peek_blockless()
     }
 
     /// Returns the bytes that have arrived and are not consumed. While a block is kept apart there are none of these. It reads no byte.
@@ -167,16 +167,16 @@ impl ApartReader {
 
     /// Returns whether it is known that nothing is whole until more bytes arrive. It reads no byte. False says nothing.
     #[inline(always)]
-    pub fn is_short(&self) -> bool
+    pub fn needs_more(&self) -> bool
         ensures short { result ≡ true → HasNone self.now self.now }
         ensures little { KeepsLittle self.now }
     {
-        if !self.reader.is_short() {
+        if !self.reader.needs_more() {
             return false;
         }
         match &self.apart {
             None => true,
-            Some(apart) => apart.is_short(),
+            Some(apart) => apart.needs_more(),
         }
     }
 
@@ -211,12 +211,12 @@ impl ApartReader {
         }
     }
 
-    /// Frees the reserved memory, as [`Reader::give_back`] does.
-    pub fn give_back(&mut self, kept: usize)
+    /// Frees the reserved memory, as [`Reader::shrink_if_idle`] does.
+    pub fn shrink_if_idle(&mut self, kept: usize)
         ensures same { self.new ≡ self.old }
         ensures little { KeepsLittle self.new }
     {
-        self.reader.give_back(kept);
+        self.reader.shrink_if_idle(kept);
     }
 }
 

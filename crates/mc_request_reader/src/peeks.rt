@@ -1,5 +1,5 @@
 //! What is first in a reader, and where it ends.
-use mc_request::Asked;
+use mc_request::RequestRef;
 use mc_text::{Block, Key, WordIter};
 
 /// The most bytes that a request or fault takes: a line, a data block and the line end after it.
@@ -18,7 +18,7 @@ pub struct Front {
 #[derive(Drop)]
 pub enum Peek<'a> {
     /// A whole request or fault, and where it ends.
-    First(Asked<'a>, Front),
+    First(RequestRef<'a>, Front),
     /// Nothing is whole until more bytes arrive.
     More,
     /// Nothing is read any more, after `quit` or a line too long.

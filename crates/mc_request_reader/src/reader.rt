@@ -1,9 +1,11 @@
 //! A reader of requests, fed in pieces.
-ghost use Rattle.std.specs.Prelude.{◌≡◌, ◌<◌, ◌≤◌, ◌+◌, ◌↔◌, ℕ, List, [], ◌++◌, length, drop, vec_len, true, false, Some, IsTrue, IfOk, IfSome, OnOk, OnErr};
+ghost use Rattle.std.specs.Prelude.{◌≡◌, ◌<◌, ◌≤◌, ◌+◌, ◌↔◌, ℕ, List, [], ◌++◌, length, drop, vec_len, true, false, Some, IsTrue, IfSome, OnOk, OnErr};
+
+mod owned;
 
 use crate::peeks::{Front, LentGet, LentLine, Peek};
 use crate::unread::Unread;
-use mc_request::{Fault, ReadError, Request, Taken};
+use mc_request::{Fault, ReadError, Request};
 use std::alloc::Global;
 use std::marker::Model;
 
@@ -28,7 +30,7 @@ pub enum Next {
 /// `consume` it is known whether something is whole. If nothing is, no call reads a byte until more arrive, with one exception. If
 /// a `consume` brought a short line to the front, of at most 512 bytes, each look and each [`Reader::ready`] reads the words of it
 /// that may announce a block. That lasts until the next feed. If something is whole, `ready` reads no byte, and [`Reader::peek`],
-/// [`Reader::peek_get`] and [`Reader::peek_lone`] each read what is first, at each call: its line, and no more than 15 bytes behind
+/// [`Reader::peek_get`] and [`Reader::peek_blockless`] each read what is first, at each call: its line, and no more than 15 bytes behind
 /// that. If nothing is whole, a reader keeps fewer than [`REQUEST_LIMIT`](crate::REQUEST_LIMIT) bytes.
 #[derive(Drop)]
 pub struct Reader {
@@ -50,8 +52,8 @@ impl Reader {
     ghost use Rattle.mc_request.specs.Requests.{requests_of};
     ghost use Rattle.mc_request_reader.specs.Reader.{fresh_reader, rest_of, kept_of, KeepsRest, KeepsLittle};
     ghost use Rattle.mc_request.specs.WellFormed.{is_well_formed};
-    ghost use Rattle.mc_request.specs.declared.parts.Taken.{Taken};
-    ghost use Rattle.mc_request_reader.specs.Peeks.{Peeks, Shows, Gives, HasNone, IsAlone, IsWellFormedPeek, front_by, front_of, get_of, past};
+    ghost use Rattle.mc_request.specs.declared.parts.Parsed.{Parsed};
+    ghost use Rattle.mc_request_reader.specs.Peeks.{Peeks, Shows, HasNone, IsAlone, IsWellFormedPeek, front_by, front_of, get_of, past};
 
     /// Makes a reader to which nothing has arrived. It takes no memory.
     pub fn new(alloc: Global) -> Self
@@ -102,28 +104,6 @@ impl Reader {
         Ok(())
     }
 
-    /// Consumes and returns the first request or fault that has arrived whole: its keys and its block are copied.
-    ///
-    /// At `Memory` it is not consumed, and nothing has changed.
-    pub fn next(&mut self) -> Result<Next, ReadError>
-        ensures given { IfOk result (λ next. Gives self.old next self.new) }
-        ensures little { KeepsLittle self.new }
-        ensures err { OnErr result (self.new ≡ self.old) }
-    {
-        match self.peek() {
-            Peek::First(asked, front) => {
-                let taken = asked.taken(self.alloc)?;
-                self.consume(front);
-                Ok(match taken {
-                    Taken::Whole(request) => Next::Request(request),
-                    Taken::Faulty(fault) => Next::Fault(fault),
-                })
-            }
-            Peek::More => Ok(Next::More),
-            Peek::Closed => Ok(Next::Closed),
-        }
-    }
-
     /// Borrows the first request or fault that has arrived whole. [`Reader::consume`] consumes it.
     ///
     /// Its line is read once. It takes no memory, and copies nothing.
@@ -155,12 +135,12 @@ impl Reader {
     /// Its leading spaces are read, 16 bytes at a time, so up to 15 bytes behind them too, and the byte before its line feed. It takes
     /// no memory, and copies nothing.
     #[inline(always)]
-    pub fn peek_lone(&self) -> Option<LentLine<'_>>
-        ensures seen { IfSome result (λ line. (what : Taken) → IsAlone line what → Shows self.now what (front_by line what)) }
-        ensures well_formed { IfSome result (λ line. (what : Taken) → IsAlone line what → is_well_formed what ≡ true) }
+    pub fn peek_blockless(&self) -> Option<LentLine<'_>>
+        ensures seen { IfSome result (λ line. (what : Parsed) → IsAlone line what → Shows self.now what (front_by line what)) }
+        ensures well_formed { IfSome result (λ line. (what : Parsed) → IsAlone line what → is_well_formed what ≡ true) }
         ensures little { KeepsLittle self.now }
     {
-        self.unread.peek_lone()
+        self.unread.peek_blockless()
     }
 
     /// Returns the bytes that have arrived and are not consumed: what [`Reader::peek`] shows begins with them. It reads none of them.
@@ -175,11 +155,11 @@ impl Reader {
     /// Returns whether it is known that nothing is whole until more bytes arrive: then [`Reader::peek`] would show [`Peek::More`].
     /// It reads no byte, and copies nothing. False says nothing.
     #[inline(always)]
-    pub fn is_short(&self) -> bool
+    pub fn needs_more(&self) -> bool
         ensures short { result ≡ true → HasNone self.now self.now }
         ensures little { KeepsLittle self.now }
     {
-        self.unread.is_short()
+        self.unread.needs_more()
     }
 
     /// Returns whether a whole request or fault has arrived, which [`Reader::next`] would return. It takes no
@@ -214,11 +194,11 @@ impl Reader {
     /// Frees the reserved memory, if no byte is kept and more than `kept` bytes are reserved. It is for a reader that will be
     /// idle for a while: the next feeds reserve anew. If bytes are kept nothing is moved, so a request that arrives in small
     /// pieces is not copied for each of them.
-    pub fn give_back(&mut self, kept: usize)
+    pub fn shrink_if_idle(&mut self, kept: usize)
         ensures same { self.new ≡ self.old }
         ensures little { KeepsLittle self.new }
     {
-        self.unread.give_back(kept);
+        self.unread.shrink_if_idle(kept);
     }
 
     /// Returns how many bytes the reader keeps: those that are not consumed, and the consumed ones that are not dropped yet,

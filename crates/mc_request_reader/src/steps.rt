@@ -4,7 +4,7 @@ ghost use Rattle.mc_text.specs.Lines.{line_end};
 ghost use Rattle.mc_text.specs.Words.{words};
 ghost use Rattle.mc_request.specs.Meanings.{meaning, Alone};
 ghost use Rattle.mc_request.specs.Requests.{with_block, stored, taken_by, next_request};
-ghost use Rattle.mc_request.specs.declared.parts.Taken.TheVariants.{Whole};
+ghost use Rattle.mc_request.specs.declared.parts.Parsed.TheVariants.{Whole};
 ghost use Rattle.mc_request.specs.LinesSeen.{meaning_of, storing_of, asked_of};
 ghost use Rattle.mc_request_reader.specs.Steps.{IsSearched, ArrivalIs, StartsBy, lent_seen};
 ghost use Rattle.mc_request.specs.WellFormed.{is_good_meaning, is_good_storing};
@@ -13,7 +13,7 @@ ghost use Rattle.mc_request_reader.specs.ApartFields.{IsLine, Announces, set_wit
 use crate::peeks::{LentLine, TakenSet};
 use crate::searched::Searched;
 use mc_request::{
-    Asked, CommandLine, Fault, Request, StoreMode, Storing, Taken, Update, announced_in,
+    CommandLine, Fault, Parsed, PendingStore, Request, RequestRef, StoreMode, Update, announced_in,
     command_line, plain_get,
 };
 use mc_text::{Block, Key, LINE_LIMIT, Line, WordIter, content_to, without_spaces};
@@ -113,16 +113,16 @@ fn size_with_block(line: usize, len: u32) -> usize
 
 /// Borrows the first request or fault of the bytes, which were searched this far, if it is whole. It also returns
 /// how many bytes that takes. Nothing is copied.
-pub fn first_asked(unread: &[u8], searched: Searched) -> Option<(Asked<'_>, usize)>
+pub fn first_asked(unread: &[u8], searched: Searched) -> Option<(RequestRef<'_>, usize)>
     requires { IsSearched searched unread.now }
     ensures { lent_seen result ≡ next_request unread.now }
 {
     match searched.line(unread) {
         Line::Partial => None,
-        Line::TooLong => Some((Asked::Faulty(Fault::LineTooLong), LINE_LIMIT)),
+        Line::TooLong => Some((RequestRef::Faulty(Fault::LineTooLong), LINE_LIMIT)),
         Line::Whole { content, taken } => match plain_get(content) {
             Some((keys, with_cas)) => Some((
-                Asked::Get {
+                RequestRef::Get {
                     keys,
                     exptime: None,
                     with_cas,
@@ -139,7 +139,7 @@ fn asked_after<'a>(
     unread: &'a [u8],
     line: CommandLine<'a>,
     taken: usize,
-) -> Option<(Asked<'a>, usize)>
+) -> Option<(RequestRef<'a>, usize)>
     requires { StartsBy unread.now (meaning_of line) taken }
     ensures { lent_seen result ≡ next_request unread.now }
 {
@@ -150,7 +150,7 @@ fn asked_after<'a>(
             if unread.len() < size {
                 None
             } else {
-                Some((Asked::Faulty(fault), size))
+                Some((RequestRef::Faulty(fault), size))
             }
         }
         CommandLine::Stores(storing, len) => {
@@ -177,7 +177,7 @@ fn line_by_itself(line: &[u8]) -> CommandLine<'_>
 
 /// Borrows the first request or fault, if it is whole, of bytes in two parts: a line, and what has arrived after it. It also returns
 /// how many bytes that takes. Nothing is copied.
-pub fn asked_beside<'a>(line: &'a [u8], after: &'a [u8]) -> Option<(Asked<'a>, usize)>
+pub fn asked_beside<'a>(line: &'a [u8], after: &'a [u8]) -> Option<(RequestRef<'a>, usize)>
     requires { IsLine line.now }
     ensures { lent_seen result ≡ next_request (line.now ++ after.now) }
 {
@@ -185,7 +185,11 @@ pub fn asked_beside<'a>(line: &'a [u8], after: &'a [u8]) -> Option<(Asked<'a>, u
 }
 
 /// Borrows the first request or fault, by what its line asks for and how many bytes that line takes.
-fn asked_by<'a>(line: CommandLine<'a>, taken: usize, after: &'a [u8]) -> Option<(Asked<'a>, usize)>
+fn asked_by<'a>(
+    line: CommandLine<'a>,
+    taken: usize,
+    after: &'a [u8],
+) -> Option<(RequestRef<'a>, usize)>
     requires { taken < 2 ^ 63 }
     ensures { lent_seen result ≡ taken_by (meaning_of line.entry) taken after.now }
 {
@@ -195,7 +199,7 @@ fn asked_by<'a>(line: CommandLine<'a>, taken: usize, after: &'a [u8]) -> Option<
             if after.len() < size_with_block(0, len) {
                 None
             } else {
-                Some((Asked::Faulty(fault), size_with_block(taken, len)))
+                Some((RequestRef::Faulty(fault), size_with_block(taken, len)))
             }
         }
         CommandLine::Stores(storing, len) => {
@@ -235,7 +239,7 @@ pub fn set_beside(alloc: Global, line: &[u8], after: &[u8]) -> Option<TakenSet>
 }
 
 /// Returns the plain `set` of a line by what the line asks for.
-fn set_by(alloc: Global, storing: Storing<'_>, len: u32, after: &[u8]) -> Option<TakenSet>
+fn set_by(alloc: Global, storing: PendingStore<'_>, len: u32, after: &[u8]) -> Option<TakenSet>
     requires { is_good_storing (storing_of storing) ≡ true }
     ensures long { IfSome result (λ set. length after.now ≡ len + 2) }
     ensures set { IfSome result (λ set.
@@ -254,11 +258,11 @@ fn set_by(alloc: Global, storing: Storing<'_>, len: u32, after: &[u8]) -> Option
 }
 
 /// Returns a storage command without its block, if it is a plain `set` and there is memory for its key.
-fn plain_set(alloc: Global, storing: Storing<'_>) -> Option<TakenSet>
+fn plain_set(alloc: Global, storing: PendingStore<'_>) -> Option<TakenSet>
     requires { is_good_storing (storing_of storing) ≡ true }
     ensures { IfSome result (λ set. (block : List ℕ) → Whole (stored (storing_of storing.entry) block) ≡ set_with set block) }
 {
-    let Storing::Classic { update, noreply } = storing else {
+    let PendingStore::Classic { update, noreply } = storing else {
         return None;
     };
     match update {
@@ -287,13 +291,13 @@ fn plain_set(alloc: Global, storing: Storing<'_>) -> Option<TakenSet>
 
 /// Returns a storage command and its data block, which has arrived, by the two bytes after it.
 #[inline(always)]
-fn with_block<'a>(storing: Storing<'a>, block: &'a [u8], end: &[u8]) -> Asked<'a>
+fn with_block<'a>(storing: PendingStore<'a>, block: &'a [u8], end: &[u8]) -> RequestRef<'a>
     ensures { asked_of result ≡ with_block (storing_of storing.entry) block.now end.now }
 {
     if end == LINE_END {
         storing.with_block(block)
     } else {
-        Asked::Faulty(Fault::BadDataChunk)
+        RequestRef::Faulty(Fault::BadDataChunk)
     }
 }
 
@@ -302,7 +306,7 @@ fn with_block<'a>(storing: Storing<'a>, block: &'a [u8], end: &[u8]) -> Asked<'a
 #[inline(always)]
 pub fn first_get(unread: &[u8], searched: Searched) -> Option<(WordIter<'_>, bool, usize)>
     requires { IsSearched searched unread.now }
-    ensures { IfSome result (λ get. next_request unread.now ≡ Some (Taken.Whole (Request.Get get.0 None get.1), get.2)) }
+    ensures { IfSome result (λ get. next_request unread.now ≡ Some (Parsed.Whole (Request.Get get.0 None get.1), get.2)) }
 {
     if !matches!(searched, Searched::Ends(_)) || unread.first() != Some(&b'g') {
         return None;
@@ -321,7 +325,7 @@ pub fn first_get(unread: &[u8], searched: Searched) -> Option<(WordIter<'_>, boo
 #[inline(always)]
 pub fn first_lone(unread: &[u8], searched: Searched) -> Option<LentLine<'_>>
     requires { IsSearched searched unread.now }
-    ensures { IfSome result (λ line. (what : Taken) → meaning (words line.content.now) ≡ Alone what
+    ensures { IfSome result (λ line. (what : Parsed) → meaning (words line.content.now) ≡ Alone what
         → next_request unread.now ≡ Some (what, line.size)) }
 {
     if !matches!(searched, Searched::Ends(_)) || !is_lone(unread) {

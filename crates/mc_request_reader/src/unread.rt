@@ -4,8 +4,8 @@ ghost use Rattle.std.specs.Prelude.{◌≡◌, ◌<◌, ◌≤◌, ◌+◌, ◌�
 use crate::peeks::{Front, LentGet, LentLine, Peek, REQUEST_LIMIT};
 use crate::searched::Searched;
 use crate::steps::{Arrival, arrival_of, first_asked, first_get, first_lone, is_whole};
-use mc_request::{Asked, Fault, ReadError};
-use mc_text::{Line, drop_front, give_back, let_go};
+use mc_request::{Fault, ReadError, RequestRef};
+use mc_text::{Line, consume_front, drain_front, shrink_if_idle};
 use std::alloc::Global;
 use std::marker::Model;
 
@@ -45,7 +45,7 @@ impl Unread {
     ghost use Rattle.mc_request.specs.Requests.{next_request};
     ghost use Rattle.mc_request_reader.specs.Reader.{fresh_reader, rest_of, kept_of, KeepsRest, KeepsLittle};
     ghost use Rattle.mc_request.specs.WellFormed.{is_well_formed};
-    ghost use Rattle.mc_request.specs.declared.parts.Taken.{Taken};
+    ghost use Rattle.mc_request.specs.declared.parts.Parsed.{Parsed};
     ghost use Rattle.mc_request_reader.specs.Peeks.{Peeks, Shows, HasNone, IsAlone, IsWellFormedPeek, front_by, front_of, get_of, past};
 
     /// Makes one to which nothing has arrived. It takes no memory.
@@ -70,7 +70,7 @@ impl Unread {
         ensures dropping { result.dropping ≡ None }
         ensures closed { result.closed ≡ false }
     {
-        let start = let_go(&mut buffer, taken);
+        let start = consume_front(&mut buffer, taken);
         Unread {
             buffer,
             start,
@@ -194,7 +194,7 @@ impl Unread {
     fn move_to_front(&mut self)
         ensures { self.new ≡ record self.old { held = length self.old.unread } }
     {
-        drop_front(&mut self.buffer, self.start);
+        drain_front(&mut self.buffer, self.start);
         self.start = 0;
     }
 
@@ -210,7 +210,7 @@ impl Unread {
             None => self.peek_unread(),
             Some((_, left)) if left > 0 => Peek::More,
             Some((fault, _)) => Peek::First(
-                Asked::Faulty(fault),
+                RequestRef::Faulty(fault),
                 Front {
                     size: 0,
                     closes: false,
@@ -279,9 +279,9 @@ impl Unread {
 
     /// Borrows the first line, if its end is known and what follows its leading spaces begins like no storage command.
     #[inline(always)]
-    pub fn peek_lone(&self) -> Option<LentLine<'_>>
-        ensures seen { IfSome result (λ line. (what : Taken) → IsAlone line what → Shows self.now what (front_by line what)) }
-        ensures well_formed { IfSome result (λ line. (what : Taken) → IsAlone line what → is_well_formed what ≡ true) }
+    pub fn peek_blockless(&self) -> Option<LentLine<'_>>
+        ensures seen { IfSome result (λ line. (what : Parsed) → IsAlone line what → Shows self.now what (front_by line what)) }
+        ensures well_formed { IfSome result (λ line. (what : Parsed) → IsAlone line what → is_well_formed what ≡ true) }
     {
         if self.closed {
             return None;
@@ -297,8 +297,8 @@ impl Unread {
     fn lone_unread(&self) -> Option<LentLine<'_>>
         requires open { self.now.closed ≡ false }
         requires whole { self.now.dropping ≡ None }
-        ensures seen { IfSome result (λ line. (what : Taken) → IsAlone line what → Shows self.now what (front_by line what)) }
-        ensures well_formed { IfSome result (λ line. (what : Taken) → IsAlone line what → is_well_formed what ≡ true) }
+        ensures seen { IfSome result (λ line. (what : Parsed) → IsAlone line what → Shows self.now what (front_by line what)) }
+        ensures well_formed { IfSome result (λ line. (what : Parsed) → IsAlone line what → is_well_formed what ≡ true) }
     {
         let (_, unread) = self.buffer.split_at(self.start);
         if unread.len() < self.wanted {
@@ -310,7 +310,7 @@ impl Unread {
 
     /// Returns whether it is known that nothing is whole until more bytes arrive. It reads no byte.
     #[inline(always)]
-    pub fn is_short(&self) -> bool
+    pub fn needs_more(&self) -> bool
         ensures { result ≡ true → HasNone self.now self.now }
     {
         if self.closed {
@@ -375,7 +375,7 @@ impl Unread {
             self.buffer.clear();
             self.start = 0;
         } else {
-            self.start = let_go(&mut self.buffer, self.start + front.size);
+            self.start = consume_front(&mut self.buffer, self.start + front.size);
         }
         self.searched = Searched::Without(0);
         self.wanted = 0;
@@ -392,10 +392,10 @@ impl Unread {
     }
 
     /// Frees the reserved memory, if nothing is kept and more than `kept` bytes are reserved.
-    pub fn give_back(&mut self, kept: usize)
+    pub fn shrink_if_idle(&mut self, kept: usize)
         ensures { self.new ≡ self.old }
     {
-        give_back(&mut self.buffer, kept);
+        shrink_if_idle(&mut self.buffer, kept);
     }
 
     /// Returns how many bytes are kept.

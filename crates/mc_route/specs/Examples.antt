@@ -4,8 +4,8 @@ use Rattle.mc_text.specs.Words.{words}
 use Rattle.mc_request.specs.Meanings.{meaning}
 use Rattle.mc_request.specs.declared.parts.Atom.{Atom}
 use Rattle.mc_request.specs.declared.parts.Atom.TheVariants as atoms
-use Rattle.mc_request.specs.declared.parts.Taken.{Taken}
-use Rattle.mc_request.specs.declared.parts.Taken.TheVariants.{Whole, Faulty}
+use Rattle.mc_request.specs.declared.parts.Parsed.{Parsed}
+use Rattle.mc_request.specs.declared.parts.Parsed.TheVariants.{Whole, Faulty}
 use Rattle.mc_request.specs.declared.parts.Update.TheVariants.{FlushAll}
 use Rattle.mc_reply.specs.Examples.{taken_with}
 use Rattle.mc_ring.specs.Points.{pair_at}
@@ -22,7 +22,7 @@ abbrev pub route_to : RingState → List ℕ → List Routed
 route_to ring line = route_of_taken ring (taken_with (meaning (words line)))
 
 -- the answer to a request by the outcomes of its commands; none to a fault
-abbrev pub joined_in : Taken → List Outcome → List ℕ
+abbrev pub joined_in : Parsed → List Outcome → List ℕ
 joined_in (Whole request) outcomes = joined_answer request outcomes
 joined_in (Faulty fault) outcomes = []
 
@@ -31,7 +31,7 @@ abbrev pub joined_to : List ℕ → List Outcome → List ℕ
 joined_to line outcomes = joined_in (taken_with (meaning (words line))) outcomes
 
 -- the answer to a request if losses count as misses; none to a fault
-abbrev pub missed_in : Taken → List Outcome → List ℕ
+abbrev pub missed_in : Parsed → List Outcome → List ℕ
 missed_in (Whole request) outcomes = joined_with Missed request outcomes
 missed_in (Faulty fault) outcomes = []
 

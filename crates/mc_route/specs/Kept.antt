@@ -4,8 +4,8 @@ use Rattle.mc_request.specs.declared.meta.MetaCommand.{MetaCommand}
 use Rattle.mc_request.specs.declared.parts.Request.{Request}
 use Rattle.mc_request.specs.declared.parts.Request.TheVariants as requests
 use Rattle.mc_request.specs.declared.parts.Update.{Update}
-use Rattle.mc_request.specs.declared.parts.Taken.{Taken}
-use Rattle.mc_request.specs.declared.parts.Taken.TheVariants.{Whole, Faulty}
+use Rattle.mc_request.specs.declared.parts.Parsed.{Parsed}
+use Rattle.mc_request.specs.declared.parts.Parsed.TheVariants.{Whole, Faulty}
 use Rattle.mc_request.specs.Parts.{update_map, meta_map}
 
 -- an update with an empty data block, if it has one
@@ -23,6 +23,6 @@ without_block (requests.Meta command form) = requests.Meta (emptied_meta command
 without_block other = other
 
 -- what was taken, with an empty data block, if it has one: a fault stays as it is
-abbrev pub kept_of : Taken → Taken
+abbrev pub kept_of : Parsed → Parsed
 kept_of (Whole request) = Whole (without_block request)
 kept_of (Faulty fault) = Faulty fault

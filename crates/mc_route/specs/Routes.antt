@@ -4,8 +4,8 @@ use Rattle.mc_request.specs.declared.parts.Atom.{Atom}
 use Rattle.mc_request.specs.declared.parts.Atom.TheVariants as atoms
 use Rattle.mc_request.specs.declared.parts.Request.{Request}
 use Rattle.mc_request.specs.declared.parts.Request.TheVariants as requests
-use Rattle.mc_request.specs.declared.parts.Taken.{Taken}
-use Rattle.mc_request.specs.declared.parts.Taken.TheVariants.{Whole, Faulty}
+use Rattle.mc_request.specs.declared.parts.Parsed.{Parsed}
+use Rattle.mc_request.specs.declared.parts.Parsed.TheVariants.{Whole, Faulty}
 use Rattle.mc_request.specs.declared.parts.Update.{Update}
 use Rattle.mc_request.specs.declared.parts.Update.TheVariants.{Store, Touch, Delete, Count, FlushAll}
 use Rattle.mc_reply.specs.Spelling.{meta_key}
@@ -53,7 +53,7 @@ route_of ring (requests.Meta command form) = to_owner ring (meta_key command) (a
 route_of ring other = []
 
 -- the commands of what was taken: a fault has none
-abbrev pub route_of_taken : RingState → Taken → List Routed
+abbrev pub route_of_taken : RingState → Parsed → List Routed
 route_of_taken ring (Whole request) = route_of ring request
 route_of_taken ring (Faulty fault) = []
 

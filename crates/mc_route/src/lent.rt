@@ -11,7 +11,7 @@ ghost use Rattle.mc_route.specs.Routes.{route_of, route_of_taken};
 use crate::errors::RouteError;
 use crate::kept::{meta_without_block, update_without_block};
 use crate::routes::{Routed, push_meta, push_moved_keys, push_update, update_count};
-use mc_request::{Asked, MetaCommand, MetaForm, Request, Taken, Update, keys_of};
+use mc_request::{MetaCommand, MetaForm, Parsed, Request, RequestRef, Update, keys_of};
 use mc_ring::Ring;
 use mc_text::WordIter;
 use std::alloc::Global;
@@ -25,27 +25,29 @@ use std::collections::VecDeque;
 /// has the commands that it had.
 pub fn route(
     alloc: Global,
-    asked: &Asked<'_>,
+    asked: &RequestRef<'_>,
     ring: &Ring,
     routed: &mut VecDeque<Routed>,
-) -> Result<Taken, RouteError>
+) -> Result<Parsed, RouteError>
     requires { is_well_formed (asked_of asked.now) ≡ true }
     ensures routed { OnOk result (routed.new.items ≡ routed.old.items ++ route_of_taken ring.now (asked_of asked.now)) }
     ensures kept { IfOk result (λ kept. kept ≡ kept_of (asked_of asked.now)) }
     ensures err { OnErr result (routed.new.items ≡ routed.old.items) }
 {
     match asked {
-        Asked::Get {
+        RequestRef::Get {
             keys,
             exptime,
             with_cas,
         } => route_keys(alloc, keys.again(), *exptime, *with_cas, ring, routed),
-        Asked::Update { update, noreply } => route_update(alloc, update, *noreply, ring, routed),
-        Asked::Meta { command, form } => route_meta(alloc, command, form, ring, routed),
-        Asked::MetaNoop => Ok(Taken::Whole(Request::MetaNoop)),
-        Asked::Version => Ok(Taken::Whole(Request::Version)),
-        Asked::Quit => Ok(Taken::Whole(Request::Quit)),
-        Asked::Faulty(fault) => Ok(Taken::Faulty(*fault)),
+        RequestRef::Update { update, noreply } => route_update(
+            alloc, update, *noreply, ring, routed,
+        ),
+        RequestRef::Meta { command, form } => route_meta(alloc, command, form, ring, routed),
+        RequestRef::MetaNoop => Ok(Parsed::Whole(Request::MetaNoop)),
+        RequestRef::Version => Ok(Parsed::Whole(Request::Version)),
+        RequestRef::Quit => Ok(Parsed::Whole(Request::Quit)),
+        RequestRef::Faulty(fault) => Ok(Parsed::Faulty(*fault)),
     }
 }
 
@@ -57,18 +59,18 @@ fn route_keys(
     with_cas: bool,
     ring: &Ring,
     routed: &mut VecDeque<Routed>,
-) -> Result<Taken, RouteError>
+) -> Result<Parsed, RouteError>
     requires some { 0 < length words }
     requires plain { list_all is_plain_key words ≡ true }
     ensures routed { OnOk result (routed.new.items ≡ routed.old.items ++ route_of ring.now (Request.Get words.entry exptime with_cas)) }
-    ensures kept { IfOk result (λ kept. kept ≡ Taken.Whole (Request.Get words.entry exptime with_cas)) }
+    ensures kept { IfOk result (λ kept. kept ≡ Parsed.Whole (Request.Get words.entry exptime with_cas)) }
     ensures err { OnErr result (routed.new.items ≡ routed.old.items) }
 {
     let keys = keys_of(alloc, words)?;
     let sent = keys.clone()?;
     routed.reserve(keys.len())?;
     push_moved_keys(routed, ring, sent, exptime, with_cas);
-    Ok(Taken::Whole(Request::Get {
+    Ok(Parsed::Whole(Request::Get {
         keys,
         exptime,
         with_cas,
@@ -82,18 +84,18 @@ fn route_update(
     noreply: bool,
     ring: &Ring,
     routed: &mut VecDeque<Routed>,
-) -> Result<Taken, RouteError>
+) -> Result<Parsed, RouteError>
     requires { has_key (update_seen update.now) ≡ true }
     ensures routed { OnOk result
         (routed.new.items ≡ routed.old.items ++ route_of ring.now (Request.Update (update_seen update.now) noreply)) }
-    ensures kept { IfOk result (λ kept. kept ≡ Taken.Whole (Request.Update (emptied (update_seen update.now)) noreply)) }
+    ensures kept { IfOk result (λ kept. kept ≡ Parsed.Whole (Request.Update (emptied (update_seen update.now)) noreply)) }
     ensures err { OnErr result (routed.new.items ≡ routed.old.items) }
 {
     let sent = update.owned(alloc)?;
     let update = update_without_block(alloc, &sent)?;
     routed.reserve(update_count(&sent, ring))?;
     push_update(routed, ring, sent);
-    Ok(Taken::Whole(Request::Update { update, noreply }))
+    Ok(Parsed::Whole(Request::Update { update, noreply }))
 }
 
 /// Appends the command of a meta command.
@@ -103,11 +105,11 @@ fn route_meta(
     form: &MetaForm<WordIter<'_>>,
     ring: &Ring,
     routed: &mut VecDeque<Routed>,
-) -> Result<Taken, RouteError>
+) -> Result<Parsed, RouteError>
     requires { has_meta_key (meta_said form.now.coded command.now) ≡ true }
     ensures routed { OnOk result
         (routed.new.items ≡ routed.old.items ++ route_of ring.now (Request.Meta (meta_said form.now.coded command.now) form.now)) }
-    ensures kept { IfOk result (λ kept. kept ≡ Taken.Whole (Request.Meta (emptied_meta (meta_said form.now.coded command.now)) form.now)) }
+    ensures kept { IfOk result (λ kept. kept ≡ Parsed.Whole (Request.Meta (emptied_meta (meta_said form.now.coded command.now)) form.now)) }
     ensures err { OnErr result (routed.new.items ≡ routed.old.items) }
 {
     let sent = command.owned(alloc, form.coded)?;
@@ -115,5 +117,5 @@ fn route_meta(
     let form = form.owned(alloc)?;
     routed.reserve(1)?;
     push_meta(routed, ring, sent);
-    Ok(Taken::Whole(Request::Meta { command, form }))
+    Ok(Parsed::Whole(Request::Meta { command, form }))
 }

@@ -9,7 +9,7 @@ ghost use Rattle.mc_reply.specs.Spelling.{meta_key};
 ghost use Rattle.mc_route.specs.Looks.{goes_to};
 ghost use Rattle.mc_route.specs.Routes.{owner_in, route_of_taken, route_of_update};
 
-use mc_request::{Asked, MetaCommand, Update, key_bytes};
+use mc_request::{MetaCommand, RequestRef, Update, key_bytes};
 use mc_ring::Ring;
 use mc_text::{CODED_ROOM, WordIter};
 
@@ -17,15 +17,16 @@ use mc_text::{CODED_ROOM, WordIter};
 /// fault, `mn`, `version` and `quit` have none. It takes no memory.
 ///
 /// For a retrieval command it computes the keys' digests, up to the first key that the server owns.
-pub fn goes_to(asked: &Asked<'_>, ring: &Ring, place: usize) -> bool
+pub fn goes_to(asked: &RequestRef<'_>, ring: &Ring, place: usize) -> bool
     requires { is_well_formed (asked_of asked.now) ≡ true }
     ensures { result ≡ goes_to place (route_of_taken ring.now (asked_of asked.now)) }
 {
     match asked {
-        Asked::Get { keys, .. } => keys_go_to(keys.again(), ring, place),
-        Asked::Update { update, .. } => update_goes_to(update, ring, place),
-        Asked::Meta { command, form } => meta_goes_to(command, form.coded, ring, place),
-        Asked::MetaNoop | Asked::Version | Asked::Quit | Asked::Faulty(_) => false,
+        RequestRef::Get { keys, .. } => keys_go_to(keys.again(), ring, place),
+        RequestRef::Update { update, .. } => update_goes_to(update, ring, place),
+        RequestRef::Meta { command, form } => meta_goes_to(command, form.coded, ring, place),
+        RequestRef::MetaNoop | RequestRef::Version | RequestRef::Quit | RequestRef::Faulty(_) =>
+            false,
     }
 }
 

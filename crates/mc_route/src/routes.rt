@@ -1,4 +1,4 @@
-//! From a request to its servers.
+//! From a request to its servers. [`atoms`] is the public form, of an owned request; a proxy routes a borrowed one.
 ghost use Rattle.std.specs.Prelude.{◌≡◌, ◌+◌, ◌≤◌, ◌++◌, ◌∷◌, [], length, IfOk, OnOk};
 ghost use Rattle.std.specs.VecDeque.{deque_len, deque_capacity};
 ghost use Rattle.mc_reply.specs.Spelling.{meta_key};

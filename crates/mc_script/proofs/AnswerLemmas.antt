@@ -7,7 +7,7 @@ use Rattle.std.proofs.lemmas.List.Elements.{All-cons, All-head, All-tail, All-pu
 use Rattle.std.proofs.lemmas.List.FromFn.{get_or-map-range_with_len, length-map-range_with_len}
 use Rattle.mc_request.specs.Faults.{fault_line}
 use Rattle.mc_request.specs.declared.faults.Fault.TheVariants.{OutOfMemory}
-use Rattle.mc_request.specs.declared.parts.Taken.{Taken}
+use Rattle.mc_request.specs.declared.parts.Parsed.{Parsed}
 use Rattle.mc_request.specs.Requests.{requests_of}
 use Rattle.mc_request.proofs.RequestLemmas.{goes_on}
 use Rattle.mc_cache.specs.CacheState.{CacheState}
@@ -22,7 +22,7 @@ use Rattle.mc_script.specs.Events.{IsEventOf}
 use Rattle.mc_script.specs.Scripts.{ScriptSeen}
 use Rattle.mc_script.proofs.HistoryLemmas.{text_more, text_turn, taken_by, served_one, served_none}
 
-abbrev entry : ℕ → Taken → ℕ → Bool → ServedRequest
+abbrev entry : ℕ → Parsed → ℕ → Bool → ServedRequest
 entry connection what moment refused = record { connection = connection; what = what; moment = moment; refused = refused }
 
 -- the requests that were taken of a connection first, and after it
@@ -58,7 +58,7 @@ same_entries (x ∷ xs) (y ∷ ys) t m r =
     let refused : x.refused ≡ y.refused = cc in
     let what : x.what ≡ y.what = head_taken x y xs ys connection (t x.connection) in
     let others : xs ≡ ys = same_entries xs ys (λ number. tail_taken number x y xs ys connection (t number)) (cc) (cc) in
-    let same : x ≡ y = ap (λ (c : ℕ). entry c x.what x.moment x.refused) connection ∙ ap (λ (w : Taken). entry y.connection w x.moment x.refused) what
+    let same : x ≡ y = ap (λ (c : ℕ). entry c x.what x.moment x.refused) connection ∙ ap (λ (w : Parsed). entry y.connection w x.moment x.refused) what
     ∙ ap (λ (n : ℕ). entry y.connection y.what n x.refused) moment ∙ ap (λ (b : Bool). entry y.connection y.what y.moment b) refused in
     ap (λ (e : ServedRequest). e ∷ xs) same ∙ ap (λ (es : List ServedRequest). y ∷ es) others
 
@@ -81,15 +81,15 @@ record Grants (opening : CacheState) (events : List ServerEvent) (history : List
   granted : All (λ refused. refused ≡ false) (refusals_of history)
 
 -- at most as many requests were taken of a connection as its text has
-few : (xs ys : List Taken) → xs ≡ take (length xs) ys → length xs ≤ length ys
+few : (xs ys : List Parsed) → xs ≡ take (length xs) ys → length xs ≤ length ys
 few xs ys h = omega (arith, ap length h, length-take (length xs) ys)
 
 -- the first elements of a list are those of a longer one
-still_first : (xs ys all more : List Taken) → xs ≡ take (length xs) ys → all ≡ ys ++ more → xs ≡ take (length xs) all
-still_first xs ys all more h is = h ∙ sym (take-append-le (length xs) ys more (few xs ys h)) ∙ ap (λ (ts : List Taken). take (length xs) ts) (sym is)
+still_first : (xs ys all more : List Parsed) → xs ≡ take (length xs) ys → all ≡ ys ++ more → xs ≡ take (length xs) all
+still_first xs ys all more h is = h ∙ sym (take-append-le (length xs) ys more (few xs ys h)) ∙ ap (λ (ts : List Parsed). take (length xs) ts) (sym is)
 
 -- the next element after the first
-next_one : (xs : List Taken) (n : ℕ) → n < length xs → (x : Taken) × (take (n + 1) xs ≡ take n xs ++ x ∷ [])
+next_one : (xs : List Parsed) (n : ℕ) → n < length xs → (x : Parsed) × (take (n + 1) xs ≡ take n xs ++ x ∷ [])
 next_one [] n inside = absurd (omega arith)
 next_one (x ∷ xs) n inside = (get_or (x ∷ xs) n x, take_more (x ∷ xs) n x inside)
 
@@ -116,7 +116,7 @@ grants_idle opening events history connection moment h = record {
 }
 
 -- a turn takes the next request
-grants_turn : (opening : CacheState) (events : List ServerEvent) (history : List ServedRequest) (connection moment : ℕ) (what : Taken)
+grants_turn : (opening : CacheState) (events : List ServerEvent) (history : List ServedRequest) (connection moment : ℕ) (what : Parsed)
     → Grants opening events history
     → take (length (taken_of connection history) + 1) (requests_of (text_fed connection events)) ≡ take (length (taken_of connection history)) (requests_of (text_fed connection events)) ++ what ∷ []
     → Grants opening (events ++ Turn connection moment ∷ []) (history ++ (record { connection = connection; what = what; moment = moment; refused = false }) ∷ [])
@@ -126,7 +126,7 @@ grants_turn opening events history connection moment what h next =
     let own : taken_of connection longer ≡ taken_of connection history ++ what ∷ [] = taken-push connection history e ∙ rw (own_number connection) refl in
     let size : length (taken_of connection longer) ≡ length (taken_of connection history) + 1 = ap length own ∙ length-append (taken_of connection history) (what ∷ []) in
     let here : taken_of connection longer ≡ take (length (taken_of connection longer)) (requests_of (text_fed connection events)) =
-    own ∙ ap (λ (ts : List Taken). ts ++ what ∷ []) (h.taken connection) ∙ sym next ∙ ap (λ (n : ℕ). take n (requests_of (text_fed connection events))) (sym size) in
+    own ∙ ap (λ (ts : List Parsed). ts ++ what ∷ []) (h.taken connection) ∙ sym next ∙ ap (λ (n : ℕ). take n (requests_of (text_fed connection events))) (sym size) in
     let beside : (number : ℕ) → connection ≢ number → taken_of number longer ≡ take (length (taken_of number longer)) (requests_of (text_fed number events)) =
     λ number differ.
     let same : taken_of number longer ≡ taken_of number history = taken-push number history e ∙ rw (other_number connection number differ) (append-nil (taken_of number history)) in

@@ -5,7 +5,7 @@ use Rattle.std.proofs.lemmas.Bool.Decides.{nat_tests, eqb_tells}
 use Rattle.std.proofs.lemmas.List.{map-append, append-nil, take_more, take_all, drop_all}
 use Rattle.std.proofs.lemmas.List.Sums.{sum_by-cons}
 use Rattle.std.proofs.lemmas.Grind.{flat_map-append}
-use Rattle.mc_request.specs.declared.parts.Taken.{Taken}
+use Rattle.mc_request.specs.declared.parts.Parsed.{Parsed}
 use Rattle.mc_request.specs.Requests.{requests_of}
 use Rattle.mc_request_reader.specs.Reader.{rest_of}
 use Rattle.mc_cache.specs.CacheState.{CacheState}
@@ -85,11 +85,11 @@ taken_by number (e ∷ es) =
     ]) ∙ sym (sum_by-cons (λ (turn : ℕ × ℕ). if turn.0 == number then 1 else 0) (e.connection, e.moment) (turns_of es))
 
 -- whether its text has one more, by the text that is left
-has_one : (opening : CacheState) (number : ℕ) (text : List ℕ) (history : List ServedRequest) (c : ConnectionState) (what : Taken) (others : List Taken)
+has_one : (opening : CacheState) (number : ℕ) (text : List ℕ) (history : List ServedRequest) (c : ConnectionState) (what : Parsed) (others : List Parsed)
     → Holds opening number text history [] c → rest_of c.reader [] ≡ what ∷ others → nat_lt (turns_by number (turns_of history)) (length (requests_of text)) ≡ true
 has_one opening number text history c what others h e =
     let all : taken_of number history ++ (what ∷ others) ≡ requests_of text = rw (← e) (h.rest [] ∙ rw append-nil refl) in
-    let len = ap (λ (ts : List Taken). length ts) all in
+    let len = ap (λ (ts : List Parsed). length ts) all in
     let below : turns_by number (turns_of history) < length (requests_of text) = omega (arith, len, length-append (taken_of number history) (what ∷ others), taken_by number history) in
     grind (arith, nat_tests, below)
 
@@ -97,7 +97,7 @@ has_none : (opening : CacheState) (number : ℕ) (text : List ℕ) (history : Li
     → Holds opening number text history [] c → rest_of c.reader [] ≡ [] → nat_lt (turns_by number (turns_of history)) (length (requests_of text)) ≡ false
 has_none opening number text history c h e =
     let all : taken_of number history ++ [] ≡ requests_of text = rw (← e) (h.rest [] ∙ rw append-nil refl) in
-    let len = ap (λ (ts : List Taken). length ts) all in
+    let len = ap (λ (ts : List Parsed). length ts) all in
     let past : length (requests_of text) ≤ turns_by number (turns_of history) = omega (arith, len, length-append (taken_of number history) [], taken_by number history) in
     grind (arith, nat_tests, past)
 

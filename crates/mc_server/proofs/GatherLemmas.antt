@@ -4,7 +4,7 @@ use Rattle.std.proofs.KnownBytes.{Appends-nil}
 use Rattle.std.proofs.lemmas.Bool.Decides.{nat_tests}
 use Rattle.std.proofs.lemmas.List.{drop-append-le, drop_min}
 use Rattle.std.specs.Io.KnownBytes.{Keeps}
-use Rattle.mc_request.specs.declared.parts.Taken.{Taken}
+use Rattle.mc_request.specs.declared.parts.Parsed.{Parsed}
 use Rattle.mc_stream.specs.Sides.{Writes}
 use Rattle.mc_cache.specs.CacheState.{CacheState}
 use Rattle.mc_server.specs.Served.{IsServed}
@@ -49,7 +49,7 @@ keeps_same None = tt
 keeps_same (Some bytes) = refl
 
 -- what goes after an output goes after what is unsent of it
-pub served_behind : (number moment sent : ℕ) (s t : CacheState) (what : Taken) (before after : List ℕ) → sent ≤ length before
+pub served_behind : (number moment sent : ℕ) (s t : CacheState) (what : Parsed) (before after : List ℕ) → sent ≤ length before
     → IsServed number s what moment t before after → IsServed number s what moment t (drop sent before) (drop sent after)
 served_behind number moment sent s t what before after fits h = (
   h.0,
@@ -61,7 +61,7 @@ served_behind number moment sent s t what before after fits h = (
 )
 
 -- an answer of which nothing was written
-pub puts_none : (number moment : ℕ) (written : Option (List ℕ)) (s t : CacheState) (what : Taken) (before after : List ℕ)
+pub puts_none : (number moment : ℕ) (written : Option (List ℕ)) (s t : CacheState) (what : Parsed) (before after : List ℕ)
     → IsServed number s what moment t before after → PutsOut number moment 0 written written s t what before after
 puts_none number moment written s t what before after h = record {
   whole = after;
@@ -72,7 +72,7 @@ puts_none number moment written s t what before after h = record {
 }
 
 -- the answer of a hit, of which the line in front is in the output, and what follows that is not
-pub puts_hit : (number moment sent went : ℕ) (written written' : Option (List ℕ)) (s t : CacheState) (what : Taken) (before head more after : List ℕ)
+pub puts_hit : (number moment sent went : ℕ) (written written' : Option (List ℕ)) (s t : CacheState) (what : Parsed) (before head more after : List ℕ)
     → sent ≤ length before → sent ≤ length head → IsServed number s what moment t before (head ++ more)
     → (rest : List ℕ) × (head ≡ before ++ (codes "VALUE " ++ rest)) → Writes (Ok went) (drop sent head ++ more) written written'
     → after ≡ drop went (drop sent head ++ more) → PutsOut number moment went written written' s t what (drop sent before) after

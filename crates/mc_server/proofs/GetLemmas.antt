@@ -7,7 +7,7 @@ use Rattle.std.proofs.lemmas.List.{append-nil}
 use Rattle.mc_request.specs.Atoms.{gets_of}
 use Rattle.mc_request.specs.declared.parts.Atom.TheVariants as atoms
 use Rattle.mc_request.specs.declared.parts.Request.TheVariants.{Get}
-use Rattle.mc_request.specs.declared.parts.Taken.TheVariants.{Whole}
+use Rattle.mc_request.specs.declared.parts.Parsed.TheVariants.{Whole}
 use Rattle.mc_reply.specs.declared.replies.Reply.{Reply}
 use Rattle.mc_reply.specs.declared.replies.Reply.TheVariants.{Stored, NotStored, Exists, NotFound, Deleted, Touched, Flushed, Number, Miss, Hit, Meta, Fault}
 use Rattle.mc_reply.specs.Replies.{filled}

@@ -3,7 +3,7 @@ use Rattle.std.proofs.Common.{◌≡◌, ◌≢◌, ◌∙◌, ⊎_elim, ℕ, �
 use Rattle.std.proofs.lemmas.Bool.Decides.{eqb_tells, leb_tells}
 use Rattle.std.proofs.lemmas.List.{append-nil}
 use Rattle.std.proofs.Math.Seq.{take-append_seam, take-nil}
-use Rattle.mc_request.specs.declared.parts.Taken.{Taken}
+use Rattle.mc_request.specs.declared.parts.Parsed.{Parsed}
 use Rattle.mc_request.specs.Requests.{requests_of}
 use Rattle.mc_request_reader.specs.Reader.{rest_of}
 use Rattle.mc_cache.specs.CacheState.{CacheState}
@@ -278,4 +278,4 @@ pub taken_is_first : (opening : CacheState) (texts sent : ℕ → List ℕ) (his
     → ServerHolds opening texts sent history server → taken_of number history ≡ take (length (taken_of number history)) (requests_of (texts number))
 taken_is_first opening texts sent history server number h =
     let l = left_at opening number (texts number) history (sent number) (connection_at server number) (h.each number) in
-    sym (take-append_seam (taken_of number history) l.untaken) ∙ ap (λ (ts : List Taken). take (length (taken_of number history)) ts) l.rest
+    sym (take-append_seam (taken_of number history) l.untaken) ∙ ap (λ (ts : List Parsed). take (length (taken_of number history)) ts) l.rest

@@ -12,7 +12,7 @@ use Rattle.mc_request.specs.declared.parts.Update.TheVariants.{Store, Touch, Del
 use Rattle.mc_request.specs.declared.meta.MetaForm.{MetaForm}
 use Rattle.mc_request.specs.declared.parts.Atom.TheVariants as atoms
 use Rattle.mc_request.specs.declared.parts.Request.TheVariants as requests
-use Rattle.mc_request.specs.declared.parts.Taken.TheVariants.{Whole}
+use Rattle.mc_request.specs.declared.parts.Parsed.TheVariants.{Whole}
 use Rattle.mc_reply.specs.declared.replies.Reply.{Reply}
 use Rattle.mc_reply.specs.Replies.{filled}
 use Rattle.mc_reply.specs.Spelling.{is_hidden, shown_meta, meta_key}

@@ -27,7 +27,7 @@ use Rattle.mc_reply.specs.Seen.{value_len}
 use Rattle.mc_reply.proofs.SpellingLemmas.{length-number}
 use Rattle.mc_store.specs.Items.{Items, body_at}
 use Rattle.mc_cache.specs.CacheState.{CacheState}
-use Rattle.mc_cache.specs.Showing.{told, item_shown}
+use Rattle.mc_cache.specs.Showing.{meta_reply_of, item_shown}
 use Rattle.mc_cache.specs.Step.{StepResult, Content, admission, numbered, stored_by, compared, unmet, unstored, content_by, store_by, touch_step, delete_by, delete_step, counted, count_number, count_by, count_none, count_step, update_step, step_of, held_under}
 use Rattle.mc_cache.specs.Settling.{settled}
 use Rattle.mc_cache.proofs.StoredLemmas.{own_key}
@@ -193,20 +193,20 @@ shown_fits n show moment marks None v is le = omega arith
 shown_fits n show moment marks (Some body) true is le = rw is le
 shown_fits n show moment marks (Some body) false is le = rw is (omega arith)
 
-pub told_fits : (n : ℕ) (show : Show) (moment : ℕ) (marks : Marks) (held : Option Body) (reply : Reply (List ℕ)) → IsShort n held reply
-    → value_len (told show moment marks held reply) ≤ (if show.value then n else 0)
-told_fits n show moment marks held Stored le = shown_fits n show moment marks held show.value refl le
-told_fits n show moment marks held (Number number) le = shown_fits n show moment marks held show.value refl le
-told_fits n show moment marks held Deleted le = omega arith
-told_fits n show moment marks held NotStored le = omega arith
-told_fits n show moment marks held Exists le = omega arith
-told_fits n show moment marks held NotFound le = omega arith
-told_fits n show moment marks held Touched le = omega arith
-told_fits n show moment marks held Flushed le = omega arith
-told_fits n show moment marks held Miss le = omega arith
-told_fits n show moment marks held (Hit flags cas value) le = absurd le
-told_fits n show moment marks held (Meta shown value) le = absurd le
-told_fits n show moment marks held (Fault fault) le = omega arith
+pub meta_reply_of_fits : (n : ℕ) (show : Show) (moment : ℕ) (marks : Marks) (held : Option Body) (reply : Reply (List ℕ)) → IsShort n held reply
+    → value_len (meta_reply_of show moment marks held reply) ≤ (if show.value then n else 0)
+meta_reply_of_fits n show moment marks held Stored le = shown_fits n show moment marks held show.value refl le
+meta_reply_of_fits n show moment marks held (Number number) le = shown_fits n show moment marks held show.value refl le
+meta_reply_of_fits n show moment marks held Deleted le = omega arith
+meta_reply_of_fits n show moment marks held NotStored le = omega arith
+meta_reply_of_fits n show moment marks held Exists le = omega arith
+meta_reply_of_fits n show moment marks held NotFound le = omega arith
+meta_reply_of_fits n show moment marks held Touched le = omega arith
+meta_reply_of_fits n show moment marks held Flushed le = omega arith
+meta_reply_of_fits n show moment marks held Miss le = omega arith
+meta_reply_of_fits n show moment marks held (Hit flags cas value) le = absurd le
+meta_reply_of_fits n show moment marks held (Meta shown value) le = absurd le
+meta_reply_of_fits n show moment marks held (Fault fault) le = omega arith
 
 -- an update shows at most what it stored
 pub update_fits : {V : Type 0} (s t : CacheState) (update : Update (List ℕ) (List ℕ)) (show : Show) (coded : Bool) (moment : ℕ) (refused : Bool) (reply : Reply V) (front : List ℕ)
@@ -215,8 +215,8 @@ pub update_fits : {V : Type 0} (s t : CacheState) (update : Update (List ℕ) (L
     → value_len (filled reply front) ≤ (if show.value then update_value_room update else 0)
 update_fits s t update show coded moment refused reply front good by_front =
     let at = settled s (key_in update) moment in
-    let told : (step_of s (atoms.Meta (metas.Update update show)) moment refused).1 ≡ filled reply front = ap (λ (o : StepResult). o.1) by_front in
-    rw told at (told_fits (update_value_room update) show moment Plain _ _ (update_step-short at update coded moment refused good))
+    let shown : (step_of s (atoms.Meta (metas.Update update show)) moment refused).1 ≡ filled reply front = ap (λ (o : StepResult). o.1) by_front in
+    rw shown at (meta_reply_of_fits (update_value_room update) show moment Plain _ _ (update_step-short at update coded moment refused good))
 
 -- what is true of a result that is no error
 pub if_ok_then : {A E : Type 0} (r : Result A E) (P Q : A → Type 0) → ((a : A) → P a → Q a) → IfOk r P → IfOk r Q

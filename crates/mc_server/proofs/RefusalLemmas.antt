@@ -22,8 +22,8 @@ use Rattle.mc_request.specs.declared.meta.Show.{Show}
 use Rattle.mc_request.specs.declared.parts.Request.TheVariants.{Get, Meta, MetaNoop, Version, Quit, Update as AnUpdate}
 use Rattle.mc_request.specs.declared.parts.StoreMode.{StoreMode}
 use Rattle.mc_request.specs.declared.parts.StoreMode.TheVariants.{Set, Add, Replace, Append, Prepend}
-use Rattle.mc_request.specs.declared.parts.Taken.{Taken}
-use Rattle.mc_request.specs.declared.parts.Taken.TheVariants.{Whole, Faulty}
+use Rattle.mc_request.specs.declared.parts.Parsed.{Parsed}
+use Rattle.mc_request.specs.declared.parts.Parsed.TheVariants.{Whole, Faulty}
 use Rattle.mc_request.specs.declared.parts.Update.{Update}
 use Rattle.mc_request.specs.declared.parts.Update.TheVariants.{Store, Touch, Delete, Count, FlushAll}
 use Rattle.mc_reply.specs.Spelling.{answer, is_hidden}
@@ -37,7 +37,7 @@ use Rattle.mc_cache.specs.CacheState.{CacheState}
 use Rattle.mc_cache.specs.Refusals.{is_refusal}
 use Rattle.mc_cache.specs.Replay.{Command, replies, AreAllowed}
 use Rattle.mc_cache.specs.Settling.{settled}
-use Rattle.mc_cache.specs.Showing.{item_shown, told}
+use Rattle.mc_cache.specs.Showing.{item_shown, meta_reply_of}
 use Rattle.mc_cache.specs.Step.{step_of, get_step, update_step, touch_step, delete_step, delete_by, count_step, count_by, count_number, count_none, meta_step, meta_get_step, meta_get_none, made_by, held_under, unmet, unstored, compared, store_by, stored, stored_by, is_too_large, Content, StepResult}
 use Rattle.mc_server.specs.Served.{ServedRequest, answer_after, tells_refusal, IsLegalAt}
 
@@ -147,25 +147,26 @@ shown_tells_none : (show : Show) (moment : ℕ) (marks : Marks) (held : Option B
 shown_tells_none show moment marks None = refl
 shown_tells_none show moment marks (Some body) = refl
 
-told_tells_none : (show : Show) (moment : ℕ) (marks : Marks) (held : Option Body) (reply : Reply (List ℕ)) → is_refusal reply ≡ false → is_refusal (told show moment marks held reply) ≡ false
-told_tells_none show moment marks held Stored other = shown_tells_none show moment marks held
-told_tells_none show moment marks held (Number number) other = shown_tells_none show moment marks held
-told_tells_none show moment marks held Deleted other = refl
-told_tells_none show moment marks held NotStored other = refl
-told_tells_none show moment marks held Exists other = refl
-told_tells_none show moment marks held NotFound other = refl
-told_tells_none show moment marks held Touched other = refl
-told_tells_none show moment marks held Flushed other = refl
-told_tells_none show moment marks held Miss other = refl
-told_tells_none show moment marks held (Hit flags cas value) other = refl
-told_tells_none show moment marks held (ShownMeta shown value) other = refl
-told_tells_none show moment marks held (Fault fault) other = other
+meta_reply_of_refuses_none : (show : Show) (moment : ℕ) (marks : Marks) (held : Option Body) (reply : Reply (List ℕ)) → is_refusal reply ≡ false → is_refusal (meta_reply_of show moment marks held reply) ≡ false
+meta_reply_of_refuses_none show moment marks held Stored other = shown_tells_none show moment marks held
+meta_reply_of_refuses_none show moment marks held (Number number) other = shown_tells_none show moment marks held
+meta_reply_of_refuses_none show moment marks held Deleted other = refl
+meta_reply_of_refuses_none show moment marks held NotStored other = refl
+meta_reply_of_refuses_none show moment marks held Exists other = refl
+meta_reply_of_refuses_none show moment marks held NotFound other = refl
+meta_reply_of_refuses_none show moment marks held Touched other = refl
+meta_reply_of_refuses_none show moment marks held Flushed other = refl
+meta_reply_of_refuses_none show moment marks held Miss other = refl
+meta_reply_of_refuses_none show moment marks held (Hit flags cas value) other = refl
+meta_reply_of_refuses_none show moment marks held (ShownMeta shown value) other = refl
+meta_reply_of_refuses_none show moment marks held (Fault fault) other = other
 
 looked_tells_none : (s : CacheState) (key : List ℕ) (get : MetaGet) (create : Option ℤ) (moment : ℕ) → is_refusal (meta_get_none s key get create moment false).1 ≡ false
 looked_tells_none s key get None moment = refl
 looked_tells_none s key get (Some create) moment =
     let made = stored s key (made_by get.exptime create moment) false Stored in
-    told_tells_none get.show moment Won (held_under (Some key) made.0) made.1 (stored_tells_none s key (made_by get.exptime create moment) Stored refl)
+    meta_reply_of_refuses_none get.show moment Won (held_under (Some key) made.0) made.1
+    (stored_tells_none s key (made_by get.exptime create moment) Stored refl)
 
 meta_get_tells_none : (s : CacheState) (key : List ℕ) (held : Option Body) (get : MetaGet) (moment : ℕ) → is_refusal (meta_get_step s key held get moment false).1 ≡ false
 meta_get_tells_none s key None get moment = looked_tells_none s key get get.create moment
@@ -175,7 +176,7 @@ meta_tells_none : (s : CacheState) (command : MetaCommand (List ℕ) (List ℕ))
 meta_tells_none s (metas.Get key get) moment = meta_get_tells_none s key (body_at key s.items) get moment
 meta_tells_none s (metas.Update update show) moment =
     let made = update_step s update moment false in
-    told_tells_none show moment Plain (held_under (key_in update) made.0) made.1 (update_tells_none s update moment)
+    meta_reply_of_refuses_none show moment Plain (held_under (key_in update) made.0) made.1 (update_tells_none s update moment)
 
 step_tells_none : (s : CacheState) (atom : Atom (List ℕ)) (moment : ℕ) → is_refusal (step_of s atom moment false).1 ≡ false
 step_tells_none s (atoms.Get key exptime with_cas) moment =
@@ -238,7 +239,7 @@ or_nothing : (test : Bool) → (test || false) ≡ test
 or_nothing true = refl
 or_nothing false = refl
 
-told_by : (s : CacheState) (what : Taken) (moment : ℕ) (refused : Bool) → IsLegalAt s (record { connection = 0; what = what; moment = moment; refused = refused }) → refused ≡ true
+told_by : (s : CacheState) (what : Parsed) (moment : ℕ) (refused : Bool) → IsLegalAt s (record { connection = 0; what = what; moment = moment; refused = refused }) → refused ≡ true
     → answer_after s (record { connection = 0; what = what; moment = moment; refused = refused }) ≡ fault_line OutOfMemory
 told_by s (Faulty fault) moment refused legal is = let never : true ≡ false = sym is ∙ legal.1 in absurd cc
 told_by s (Whole (Get keys exptime with_cas)) moment refused legal is = let never : true ≡ false = sym is ∙ legal.1 ∙ gets_tell_none s exptime with_cas moment refused keys in absurd cc

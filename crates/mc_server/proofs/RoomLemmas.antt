@@ -8,8 +8,8 @@ use Rattle.std.proofs.lemmas.Bool.Decides.{nat_tests}
 use Rattle.mc_text.specs.Words.{words}
 use Rattle.mc_text.proofs.WordLemmas.{length-words}
 use Rattle.mc_request.specs.declared.parts.Request.TheVariants.{Get, Update, Meta, MetaNoop, Version, Quit}
-use Rattle.mc_request.specs.declared.parts.Taken.{Taken}
-use Rattle.mc_request.specs.declared.parts.Taken.TheVariants.{Whole, Faulty}
+use Rattle.mc_request.specs.declared.parts.Parsed.{Parsed}
+use Rattle.mc_request.specs.declared.parts.Parsed.TheVariants.{Whole, Faulty}
 use Rattle.mc_request.specs.WellFormed.{is_well_formed}
 use Rattle.mc_cache.specs.CacheState.{CacheState, value_at}
 use Rattle.mc_item.specs.declared.bodies.Body.{Body}
@@ -77,7 +77,7 @@ keys_within : (keys : List (List ℕ)) (s : CacheState) → 0 < length keys → 
 keys_within [] s some = absurd (omega arith)
 keys_within (key ∷ keys) s some = omega (arith, keys_room-wider 384 1024 keys s (omega arith))
 
-pub room_within : (what : Taken) (s : CacheState) → is_well_formed what ≡ true → room_of what s ≤ taken_bound what s
+pub room_within : (what : Parsed) (s : CacheState) → is_well_formed what ≡ true → room_of what s ≤ taken_bound what s
 room_within (Faulty fault) s good = omega arith
 room_within (Whole (Get keys exptime with_cas)) s good =
     let some : nat_lt 0 (length keys) ≡ true = some_keys (nat_lt 0 (length keys)) _ (some_keys (nat_lt 0 (length keys) && _) _ good) in
@@ -93,7 +93,7 @@ keys_bound : (keys : List (List ℕ)) (s : CacheState) → keys_room 1024 keys s
 keys_bound [] s = omega arith
 keys_bound (key ∷ keys) s = omega (arith, keys_bound keys s)
 
-pub bound_within : (what : Taken) (s : CacheState) → taken_bound what s ≤ 16 * room_of what s
+pub bound_within : (what : Parsed) (s : CacheState) → taken_bound what s ≤ 16 * room_of what s
 bound_within (Faulty fault) s = omega arith
 bound_within (Whole (Get keys exptime with_cas)) s = omega (arith, keys_bound keys s)
 bound_within (Whole (Update update noreply)) s = omega arith

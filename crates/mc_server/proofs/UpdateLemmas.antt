@@ -5,7 +5,7 @@ use Rattle.mc_request.specs.declared.hides.Hides.{Hides}
 use Rattle.mc_request.specs.declared.hides.Hides.TheVariants.{Nothing, ReplyLine, Misses, Success, SuccessAndMisses}
 use Rattle.mc_request.specs.declared.parts.Atom.TheVariants as atoms
 use Rattle.mc_request.specs.declared.parts.Request.TheVariants as requests
-use Rattle.mc_request.specs.declared.parts.Taken.TheVariants.{Whole}
+use Rattle.mc_request.specs.declared.parts.Parsed.TheVariants.{Whole}
 use Rattle.mc_request.specs.declared.parts.Update.{Update}
 use Rattle.mc_reply.specs.declared.replies.Reply.{Reply}
 use Rattle.mc_reply.specs.declared.replies.Reply.TheVariants.{Stored, NotStored, Exists, NotFound, Deleted, Touched, Flushed, Number, Miss, Hit, Meta, Fault}
@@ -20,81 +20,39 @@ use Rattle.mc_server.specs.Served.{IsServed}
 abbrev nothing : List ℕ
 nothing = []
 
--- a value makes no reply a refusal, nor an error line
+-- no test of a reply looks at its value
+tests-filled : {V W : Type 0} (reply : Reply V) (value : W)
+    → (is_refusal (filled reply value) ≡ is_refusal reply) × (is_fault (filled reply value) ≡ is_fault reply)
+    × (is_miss (filled reply value) ≡ is_miss reply) × (is_bare_success (filled reply value) ≡ is_bare_success reply)
+    × (is_not_found (filled reply value) ≡ is_not_found reply)
+tests-filled Stored value = (refl, refl, refl, refl, refl)
+tests-filled NotStored value = (refl, refl, refl, refl, refl)
+tests-filled Exists value = (refl, refl, refl, refl, refl)
+tests-filled NotFound value = (refl, refl, refl, refl, refl)
+tests-filled Deleted value = (refl, refl, refl, refl, refl)
+tests-filled Touched value = (refl, refl, refl, refl, refl)
+tests-filled Flushed value = (refl, refl, refl, refl, refl)
+tests-filled (Number number) value = (refl, refl, refl, refl, refl)
+tests-filled Miss value = (refl, refl, refl, refl, refl)
+tests-filled (Hit flags cas none) value = (refl, refl, refl, refl, refl)
+tests-filled (Meta shown None) value = (refl, refl, refl, refl, refl)
+tests-filled (Meta shown (Some none)) value = (refl, refl, refl, refl, refl)
+tests-filled (Fault fault) value = (refl, refl, refl, refl, refl)
+
 pub is_refusal-filled : {V W : Type 0} (reply : Reply V) (value : W) → is_refusal (filled reply value) ≡ is_refusal reply
-is_refusal-filled Stored value = refl
-is_refusal-filled NotStored value = refl
-is_refusal-filled Exists value = refl
-is_refusal-filled NotFound value = refl
-is_refusal-filled Deleted value = refl
-is_refusal-filled Touched value = refl
-is_refusal-filled Flushed value = refl
-is_refusal-filled (Number number) value = refl
-is_refusal-filled Miss value = refl
-is_refusal-filled (Hit flags cas none) value = refl
-is_refusal-filled (Meta shown None) value = refl
-is_refusal-filled (Meta shown (Some none)) value = refl
-is_refusal-filled (Fault fault) value = refl
+is_refusal-filled reply value = (tests-filled reply value).0
 
 is_fault-filled : {V W : Type 0} (reply : Reply V) (value : W) → is_fault (filled reply value) ≡ is_fault reply
-is_fault-filled Stored value = refl
-is_fault-filled NotStored value = refl
-is_fault-filled Exists value = refl
-is_fault-filled NotFound value = refl
-is_fault-filled Deleted value = refl
-is_fault-filled Touched value = refl
-is_fault-filled Flushed value = refl
-is_fault-filled (Number number) value = refl
-is_fault-filled Miss value = refl
-is_fault-filled (Hit flags cas none) value = refl
-is_fault-filled (Meta shown None) value = refl
-is_fault-filled (Meta shown (Some none)) value = refl
-is_fault-filled (Fault fault) value = refl
+is_fault-filled reply value = (tests-filled reply value).1
 
 is_miss-filled : {V W : Type 0} (reply : Reply V) (value : W) → is_miss (filled reply value) ≡ is_miss reply
-is_miss-filled Stored value = refl
-is_miss-filled NotStored value = refl
-is_miss-filled Exists value = refl
-is_miss-filled NotFound value = refl
-is_miss-filled Deleted value = refl
-is_miss-filled Touched value = refl
-is_miss-filled Flushed value = refl
-is_miss-filled (Number number) value = refl
-is_miss-filled Miss value = refl
-is_miss-filled (Hit flags cas none) value = refl
-is_miss-filled (Meta shown None) value = refl
-is_miss-filled (Meta shown (Some none)) value = refl
-is_miss-filled (Fault fault) value = refl
+is_miss-filled reply value = (tests-filled reply value).2
 
 is_bare_success-filled : {V W : Type 0} (reply : Reply V) (value : W) → is_bare_success (filled reply value) ≡ is_bare_success reply
-is_bare_success-filled Stored value = refl
-is_bare_success-filled NotStored value = refl
-is_bare_success-filled Exists value = refl
-is_bare_success-filled NotFound value = refl
-is_bare_success-filled Deleted value = refl
-is_bare_success-filled Touched value = refl
-is_bare_success-filled Flushed value = refl
-is_bare_success-filled (Number number) value = refl
-is_bare_success-filled Miss value = refl
-is_bare_success-filled (Hit flags cas none) value = refl
-is_bare_success-filled (Meta shown None) value = refl
-is_bare_success-filled (Meta shown (Some none)) value = refl
-is_bare_success-filled (Fault fault) value = refl
+is_bare_success-filled reply value = (tests-filled reply value).3
 
 is_not_found-filled : {V W : Type 0} (reply : Reply V) (value : W) → is_not_found (filled reply value) ≡ is_not_found reply
-is_not_found-filled Stored value = refl
-is_not_found-filled NotStored value = refl
-is_not_found-filled Exists value = refl
-is_not_found-filled NotFound value = refl
-is_not_found-filled Deleted value = refl
-is_not_found-filled Touched value = refl
-is_not_found-filled Flushed value = refl
-is_not_found-filled (Number number) value = refl
-is_not_found-filled Miss value = refl
-is_not_found-filled (Hit flags cas none) value = refl
-is_not_found-filled (Meta shown None) value = refl
-is_not_found-filled (Meta shown (Some none)) value = refl
-is_not_found-filled (Fault fault) value = refl
+is_not_found-filled reply value = (tests-filled reply value).4
 
 pub is_hidden-filled : {V W : Type 0} (hides : Hides) (reply : Reply V) (value : W) → is_hidden hides (filled reply value) ≡ is_hidden hides reply
 is_hidden-filled Nothing reply value = refl

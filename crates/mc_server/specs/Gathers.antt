@@ -1,7 +1,7 @@
 -- A turn whose answer may be written at once, without copying its value.
 use Rattle.std.specs.Prelude.{◌≡◌, ℕ, ◌<◌, List, ◌++◌, drop, codes, Option, Ok}
 use Rattle.std.specs.Io.KnownBytes.{Keeps}
-use Rattle.mc_request.specs.declared.parts.Taken.{Taken}
+use Rattle.mc_request.specs.declared.parts.Parsed.{Parsed}
 use Rattle.mc_request.specs.Requests.{ends}
 use Rattle.mc_request_reader.specs.Peeks.{IsFirst}
 use Rattle.mc_stream.specs.Sides.{Writes}
@@ -15,7 +15,7 @@ use Rattle.mc_server.specs.declared.turns.Limited.TheVariants.{Turned}
 
 -- What is taken is served at this moment, and its answer is appended to the output. The writer took the first `went` bytes of
 -- both, and those after them are left. It took some only if an item is shown.
-pub record PutsOut (number moment went : ℕ) (written written' : Option (List ℕ)) (s t : CacheState) (what : Taken) (before after : List ℕ) : Type 0 where
+pub record PutsOut (number moment went : ℕ) (written written' : Option (List ℕ)) (s t : CacheState) (what : Parsed) (before after : List ℕ) : Type 0 where
   pub whole : List ℕ
   pub served : IsServed number s what moment t before whole
   pub wrote : Writes (Ok went) whole written written'
@@ -24,7 +24,7 @@ pub record PutsOut (number moment went : ℕ) (written written' : Option (List �
 
 -- the first request or fault of a connection's rest is taken, and its answer is written or appended
 pub record TakesOut (number moment went : ℕ) (written written' : Option (List ℕ)) (s t : CacheState) (old new : ConnectionState) : Type 0 where
-  pub what : Taken
+  pub what : Parsed
   pub first : IsFirst old.reader what new.reader
   pub closed : new.reader.closed ≡ ends what
   pub put : PutsOut number moment went written written' s t what old.output new.output

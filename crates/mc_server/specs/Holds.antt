@@ -2,7 +2,7 @@
 use Rattle.std.specs.Prelude.{◌≡◌, ℕ, ◌≤◌, ◌==◌, List, [], ◌++◌, Option, Some, None, if◌then◌else◌}
 use Rattle.mc_request.specs.Requests.{requests_of}
 use Rattle.mc_request_reader.specs.Reader.{rest_of}
-use Rattle.mc_request.specs.declared.parts.Taken.{Taken}
+use Rattle.mc_request.specs.declared.parts.Parsed.{Parsed}
 use Rattle.mc_cache.specs.CacheState.{CacheState}
 use Rattle.mc_server.specs.Served.{ServedRequest}
 use Rattle.mc_server.specs.Histories.{replayed, answers_to, taken_of, IsLegalHistory}
@@ -23,7 +23,7 @@ pub record Holds (opening : CacheState) (number : ℕ) (text : List ℕ) (histor
 -- Likewise if it is no longer open: what was taken of it is the first of the text, in order, and the bytes taken out
 -- are the first of the answers to it.
 pub record Left (opening : CacheState) (number : ℕ) (text : List ℕ) (history : List ServedRequest) (sent : List ℕ) : Type 0 where
-  pub untaken : List Taken
+  pub untaken : List Parsed
   pub rest : taken_of number history ++ untaken ≡ requests_of text
   pub unsent : List ℕ
   pub answered : sent ++ unsent ≡ answers_to number opening history
@@ -34,7 +34,7 @@ ServerHoldsAt opening number text history sent None = Left opening number text h
 ServerHoldsAt opening number text history sent (Some connection) = Holds opening number text history sent connection
 
 -- a number that was not given yet: none is open, nothing has arrived or was taken, and no byte was taken out
-pub record IsUnused (text : List ℕ) (taken : List Taken) (sent : List ℕ) (connection : Option ConnectionState) : Type 0 where
+pub record IsUnused (text : List ℕ) (taken : List Parsed) (sent : List ℕ) (connection : Option ConnectionState) : Type 0 where
   pub not_open : connection ≡ None
   pub nothing_came : text ≡ []
   pub nothing_taken : taken ≡ []

@@ -1,22 +1,22 @@
-//! Prefetching: guesses of the items that the next requests ask for.
+//! Prefetching: slot hints for the keys of the next requests.
 
 use crate::first_keys::{AHEAD, FirstKeys};
 use mc_cache::Cache;
-use mc_request::{Asked, MetaCommand, Update};
-use mc_store::Store;
+use mc_request::{MetaCommand, RequestRef, Update};
+use mc_store::{Hint, Store};
 use mc_text::{WordIter, words};
 
-/// The fewest keys whose items are guessed.
+/// The fewest keys whose items are prefetched.
 const FEW: usize = 3;
 
 /// The fewest bytes of a text that is worth a look.
 const SHORT: usize = 64;
 
-/// After a look that found little, no look begins at this many requests. If no more than half of its keys had a guess, the number doubles
+/// After a look that found little, no look begins at this many requests. If no more than half of its keys had a hint, the number doubles
 /// after each such look that follows it.
 const PASSES: u32 = 4;
 
-/// The number grows by this for each line that is refused while a guess is left, once such lines are more than an eighth of a look's keys.
+/// The number grows by this for each line that is refused while a hint is left, once such lines are more than an eighth of a look's keys.
 const VAIN_PASSES: u32 = 4;
 
 /// The number grows by one more for this many bytes of the refused line and its data block.
@@ -50,18 +50,17 @@ impl Looked {
     }
 }
 
-/// Guesses of the items of the keys that the next requests on one connection ask for, in the order of the keys. A call that takes a
-/// guess checks it, so a guess affects only the speed.
+/// Slot hints for the keys that the next requests on one connection ask for, in the order of the keys.
 #[derive(Clone, Copy)]
 pub struct Ahead {
-    guesses: [u32; AHEAD],
-    /// The number of keys that have guesses.
+    hints: [Hint; AHEAD],
+    /// The number of keys that have hints.
     count: u8,
-    /// The number of guesses that were used.
+    /// The number of hints that were used.
     used: u8,
-    /// The number of used guesses that were for a refused line.
+    /// The number of used hints that were for a refused line.
     refused: u8,
-    /// The bytes that the prefetches returned, joined: they only keep the loads alive ([`Store::guess_all`]).
+    /// The bytes that the prefetches returned, joined: they only keep the loads alive ([`Store::prefetch`]).
     sink: u8,
     /// Whether the line that is served is refused, and delays the next look.
     vain: bool,
@@ -70,10 +69,10 @@ pub struct Ahead {
 }
 
 impl Ahead {
-    /// Returns no guess.
+    /// Returns no hint.
     pub fn none() -> Ahead {
         Ahead {
-            guesses: [0; AHEAD],
+            hints: [Hint::none(); AHEAD],
             count: 0,
             used: 0,
             refused: 0,
@@ -83,23 +82,23 @@ impl Ahead {
         }
     }
 
-    /// Turns to a connection, by its number. The guesses of another connection are dropped.
+    /// Turns to a connection, by its number. The hints of another connection are dropped.
     #[inline]
     pub fn turn_to(&mut self, connection: u64) {
         if self.connection != connection {
             self.connection = connection;
-            self.drop_guesses();
+            self.drop_hints();
         }
     }
 
-    /// Drops all guesses.
-    fn drop_guesses(&mut self) {
+    /// Drops all hints.
+    fn drop_hints(&mut self) {
         self.count = 0;
         self.used = 0;
         self.refused = 0;
     }
 
-    /// Notes that a line was refused. If a guess is left, it skips one. If more than an eighth of a look's keys are in such lines, it delays
+    /// Notes that a line was refused. If a hint is left, it skips one. If more than an eighth of a look's keys are in such lines, it delays
     /// the next look. A look takes a line with a key whether it is refused or not, and a client that sends such lines must gain nothing by it.
     #[inline]
     pub fn refuse(&mut self) {
@@ -126,21 +125,21 @@ impl Ahead {
         }
     }
 
-    /// Returns the guess for the next meta command's key: 0 for one in base64, which has none.
+    /// Returns the hint for the next meta command's key: [`Hint::none`] for one in base64, which no look takes.
     #[inline]
-    pub fn next_for(&mut self, coded: bool) -> u32 {
-        if coded { 0 } else { self.next() }
+    pub fn next_for(&mut self, coded: bool) -> Hint {
+        if coded { Hint::none() } else { self.next() }
     }
 
-    /// Returns the guess for the next key, and marks it as used: 0 if there is none.
+    /// Returns the hint for the next key, and marks it as used: [`Hint::none`] if none is left.
     #[inline]
-    pub fn next(&mut self) -> u32 {
+    pub fn next(&mut self) -> Hint {
         if self.used >= self.count {
-            return 0;
+            return Hint::none();
         }
-        let guess = self.guesses.get(self.used as usize).copied();
+        let hint = self.hints.get(self.used as usize).copied();
         self.used += 1;
-        guess.unwrap_or(0)
+        hint.unwrap_or(Hint::none())
     }
 
     /// Looks ahead, if the cache finds several items faster together: it prefetches the items of the keys of a retrieval that is first in a text and
@@ -148,7 +147,7 @@ impl Ahead {
     ///
     /// A look begins behind all lines that the last one took, so at most two looks read each byte, however the text is cut. If it finds
     /// fewer than three keys, and leaves text enough for another one, the next begins 4 requests later. If no more than half of its keys
-    /// have a guess, the next begins 4 requests later too, and then 8, 16, 32 and 64, as long as none finds more. Each of its refused lines
+    /// have a hint, the next begins 4 requests later too, and then 8, 16, 32 and 64, as long as none finds more. Each of its refused lines
     /// beyond an eighth of its keys delays the next one by 4 requests more, and by one for 128 bytes, to 64 at most. Requests at which no
     /// look could begin are not counted: those without a key, or with a key in base64, refused ones, those in lines that the look took, and
     /// those with fewer than 64 bytes from there on.
@@ -161,10 +160,10 @@ impl Ahead {
         text: &[u8],
         cache: &Cache<S>,
     ) -> Looked {
-        if looked.bytes > 0 || text.len() < SHORT || !cache.guesses() {
+        if looked.bytes > 0 || text.len() < SHORT || !cache.prefetches() {
             return looked;
         }
-        self.guess(looked, keys.again(), size, text, cache)
+        self.prefetch(looked, keys.again(), size, text, cache)
     }
 
     /// Looks ahead, as [`Ahead::look`] does, at any request or fault that has a key and after which something follows.
@@ -172,23 +171,23 @@ impl Ahead {
     pub fn look_past<S: Store + Drop>(
         &mut self,
         looked: Looked,
-        asked: &Asked<'_>,
+        asked: &RequestRef<'_>,
         size: usize,
         text: &[u8],
         cache: &Cache<S>,
     ) -> Looked {
-        if looked.bytes > 0 || text.len() < SHORT || text.len() <= size || !cache.guesses() {
+        if looked.bytes > 0 || text.len() < SHORT || text.len() <= size || !cache.prefetches() {
             return looked;
         }
         match keys_of(asked) {
-            Some(keys) => self.guess(looked, keys, size, text, cache),
+            Some(keys) => self.prefetch(looked, keys, size, text, cache),
             None => looked,
         }
     }
 
     /// Looks ahead, unless this request is to be skipped.
     #[inline(never)]
-    fn guess<S: Store + Drop>(
+    fn prefetch<S: Store + Drop>(
         &mut self,
         looked: Looked,
         keys: WordIter<'_>,
@@ -202,14 +201,14 @@ impl Ahead {
         let mut first = FirstKeys::none();
         first.take(keys, text.get(size..).unwrap_or_default());
         let keys = first.keys();
-        self.drop_guesses();
+        self.drop_hints();
         let bytes = first.taken().saturating_add(size);
         if keys.len() >= FEW
-            && let Some(guesses) = self.guesses.get_mut(..keys.len())
+            && let Some(hints) = self.hints.get_mut(..keys.len())
         {
             self.count = keys.len() as u8;
-            self.sink ^= cache.guess_all(keys, guesses);
-            return paused(bytes, pause_after(looked.pause, guesses));
+            self.sink ^= cache.prefetch(keys, hints);
+            return paused(bytes, pause_after(looked.pause, hints));
         }
         Looked {
             bytes,
@@ -238,11 +237,11 @@ fn paused(bytes: usize, pause: u32) -> Looked {
     }
 }
 
-/// Returns the number of requests at which no look begins after one with these guesses: 0, unless no more than half of its keys have one.
-/// (A key that no item has may have a guess, if many keys share its bucket.)
-fn pause_after(before: u32, guesses: &[u32]) -> u32 {
-    let found = guesses.iter().filter(|guess| **guess != 0).count();
-    if found > guesses.len() / 2 {
+/// Returns the number of requests at which no look begins after one with these hints: 0, unless no more than half of its keys have one.
+/// (A key that no item has may have a hint, if many keys share its bucket.)
+fn pause_after(before: u32, hints: &[Hint]) -> u32 {
+    let found = hints.iter().filter(|hint| **hint != Hint::none()).count();
+    if found > hints.len() / 2 {
         return 0;
     }
     before.saturating_mul(2).max(PASSES).min(MOST_PASSES)
@@ -258,16 +257,17 @@ fn one_passed(looked: Looked) -> Looked {
 
 /// Returns the keys of a request that has one, except a key in base64: its word is not what is looked up.
 #[inline(always)]
-fn keys_of<'a>(asked: &Asked<'a>) -> Option<WordIter<'a>> {
+fn keys_of<'a>(asked: &RequestRef<'a>) -> Option<WordIter<'a>> {
     match asked {
-        Asked::Get { keys, .. } => Some(keys.again()),
-        Asked::Update { update, .. } => key_of(update),
-        Asked::Meta { form, .. } if form.coded => None,
-        Asked::Meta { command, .. } => match command {
+        RequestRef::Get { keys, .. } => Some(keys.again()),
+        RequestRef::Update { update, .. } => key_of(update),
+        RequestRef::Meta { form, .. } if form.coded => None,
+        RequestRef::Meta { command, .. } => match command {
             MetaCommand::Get { key, .. } => Some(words(key)),
             MetaCommand::Update { update, .. } => key_of(update),
         },
-        Asked::MetaNoop | Asked::Version | Asked::Quit | Asked::Faulty(_) => None,
+        RequestRef::MetaNoop | RequestRef::Version | RequestRef::Quit | RequestRef::Faulty(_) =>
+            None,
     }
 }
 

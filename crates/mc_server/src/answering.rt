@@ -8,7 +8,7 @@ ghost use Rattle.mc_request.specs.Parts.{update_seen, meta_said};
 ghost use Rattle.mc_request.specs.WellFormed.{is_well_formed, is_good_request, is_good_meta, is_good_block, is_meta_key, has_meta_key};
 ghost use Rattle.mc_request.specs.declared.parts.Atom.TheVariants.{Get as GetOne, Meta as MetaAtom};
 ghost use Rattle.mc_request.specs.declared.parts.Request.TheVariants.{Get, Meta, Update as AnUpdate};
-ghost use Rattle.mc_request.specs.declared.parts.Taken.TheVariants.{Whole};
+ghost use Rattle.mc_request.specs.declared.parts.Parsed.TheVariants.{Whole};
 ghost use Rattle.mc_request.specs.declared.parts.Update.{Update as AnyUpdate};
 ghost use Rattle.mc_request_reader.specs.Peeks.{set_of};
 ghost use Rattle.mc_reply.specs.Replies.{filled};
@@ -29,9 +29,9 @@ use mc_reply::{
     KEY_ROOM, LINE_ROOM, META_ROOM, Reply, write_end, write_fault, write_key, write_line,
     write_meta, write_noop, write_version,
 };
-use mc_request::{Asked, Hides, MetaCommand, MetaForm, Update, key_bytes};
+use mc_request::{Hides, MetaCommand, MetaForm, RequestRef, Update, key_bytes};
 use mc_request_reader::TakenSet;
-use mc_store::Store;
+use mc_store::{Hint, Store};
 use mc_text::{CODED_ROOM, VALUE_LIMIT, WordIter};
 use std::alloc::AllocError;
 
@@ -46,33 +46,39 @@ pub const NUMBER_ROOM: usize = 20;
 const ROOM_BY_LONGEST: usize = 65_536;
 
 /// Returns enough bytes of room for the answer to a request; [`usize::MAX`] if it may need that or more.
-pub fn room_for<S: Store + Drop>(asked: &Asked<'_>, cache: &Cache<S>) -> usize
+pub fn room_for<S: Store + Drop>(asked: &RequestRef<'_>, cache: &Cache<S>) -> usize
     requires { is_well_formed (asked_of asked.now) ≡ true }
     ensures enough { min (room_of (asked_of asked.now) cache.now) (2 ^ 64 - 1) ≤ result }
     ensures most { result ≤ room_of (asked_of asked.now) cache.now + ROOM_BY_LONGEST }
 {
     match asked {
-        Asked::Get { keys, .. } => room_for_get(keys, cache),
-        Asked::Meta { command, form } => {
+        RequestRef::Get { keys, .. } => room_for_get(keys, cache),
+        RequestRef::Meta { command, form } => {
             META_ROOM.saturating_add(enough_for_value(command, form.coded, cache))
         }
-        Asked::Update { .. } | Asked::MetaNoop | Asked::Version | Asked::Quit | Asked::Faulty(_) =>
-            LINE_ROOM,
+        RequestRef::Update { .. }
+        | RequestRef::MetaNoop
+        | RequestRef::Version
+        | RequestRef::Quit
+        | RequestRef::Faulty(_) => LINE_ROOM,
     }
 }
 
 /// Returns a bound on the answer to a request, as reported to a caller; [`usize::MAX`] if it is that or more.
-pub fn bound_for<S: Store + Drop>(asked: &Asked<'_>, cache: &Cache<S>) -> usize
+pub fn bound_for<S: Store + Drop>(asked: &RequestRef<'_>, cache: &Cache<S>) -> usize
     requires { is_well_formed (asked_of asked.now) ≡ true }
     ensures { result ≡ min (taken_bound (asked_of asked.now) cache.now) (2 ^ 64 - 1) }
 {
     match asked {
-        Asked::Get { keys, .. } => bound_for_get(keys, cache),
-        Asked::Meta { command, form } => {
+        RequestRef::Get { keys, .. } => bound_for_get(keys, cache),
+        RequestRef::Meta { command, form } => {
             COMMAND_BOUND.saturating_add(room_for_value(command, form.coded, cache))
         }
-        Asked::Update { .. } | Asked::MetaNoop | Asked::Version | Asked::Quit | Asked::Faulty(_) =>
-            COMMAND_BOUND,
+        RequestRef::Update { .. }
+        | RequestRef::MetaNoop
+        | RequestRef::Version
+        | RequestRef::Quit
+        | RequestRef::Faulty(_) => COMMAND_BOUND,
     }
 }
 
@@ -172,7 +178,7 @@ fn room_for_keys<S: Store + Drop>(beside: usize, keys: WordIter<'_>, cache: &Cac
 /// stored key. If the answer is not within the limit, or at an error, nothing has changed.
 #[inline]
 pub fn serve_within<S: Store + Drop>(
-    asked: &Asked<'_>,
+    asked: &RequestRef<'_>,
     cache: &mut Cache<S>,
     moment: u64,
     limit: AnswerLimit,
@@ -200,10 +206,10 @@ pub fn serve_within<S: Store + Drop>(
     Ok(true)
 }
 
-/// Serves a request at a moment, given guesses of the items of the next keys. The cache may take memory to store an item. Beside
+/// Serves a request at a moment, given hints of the next keys' slots. The cache may take memory to store an item. Beside
 /// that, it takes memory only for the block of a value that is stored under a stored key, and if there is none nothing has changed.
 pub fn serve<S: Store + Drop>(
-    asked: &Asked<'_>,
+    asked: &RequestRef<'_>,
     cache: &mut Cache<S>,
     moment: u64,
     ahead: &mut Ahead,
@@ -220,7 +226,7 @@ pub fn serve<S: Store + Drop>(
 {
     let hides = asked.hides();
     match asked {
-        Asked::Get {
+        RequestRef::Get {
             keys,
             exptime,
             with_cas,
@@ -228,17 +234,17 @@ pub fn serve<S: Store + Drop>(
             let keys = keys.again();
             serve_keys(keys, *exptime, *with_cas, cache, moment, ahead, output);
         }
-        Asked::Update { update, .. } => {
+        RequestRef::Update { update, .. } => {
             serve_update(update, hides, cache, ahead.next(), moment, output)?;
         }
-        Asked::Meta { command, form } => {
-            let guess = ahead.next_for(form.coded);
-            serve_meta(command, form, hides, cache, guess, moment, output)?;
+        RequestRef::Meta { command, form } => {
+            let hint = ahead.next_for(form.coded);
+            serve_meta(command, form, hides, cache, hint, moment, output)?;
         }
-        Asked::MetaNoop => write_noop(output).unwrap(),
-        Asked::Version => write_version(output).unwrap(),
-        Asked::Quit => {}
-        Asked::Faulty(fault) => {
+        RequestRef::MetaNoop => write_noop(output).unwrap(),
+        RequestRef::Version => write_version(output).unwrap(),
+        RequestRef::Quit => {}
+        RequestRef::Faulty(fault) => {
             ahead.refuse();
             write_fault(*fault, output).unwrap();
         }
@@ -246,12 +252,12 @@ pub fn serve<S: Store + Drop>(
     Ok(())
 }
 
-/// Serves a command that may change what is stored, given a guess of its key's item.
+/// Serves a command that may change what is stored, given a hint of its key's slot.
 fn serve_update<S: Store + Drop>(
     update: &Update<&[u8], &[u8]>,
     hides: Hides,
     cache: &mut Cache<S>,
-    guess: u32,
+    hint: Hint,
     moment: u64,
     output: &mut Vec<u8>,
 ) -> Result<(), AllocError>
@@ -265,7 +271,7 @@ fn serve_update<S: Store + Drop>(
     ensures cache_kept { OnErr result (cache.new ≡ cache.old) }
     ensures output_kept { OnErr result (output.new.items ≡ output.old.items) }
 {
-    let reply = cache.update_by(update, guess, moment)?;
+    let reply = cache.update(update, hint, moment)?;
     if !reply.is_hidden(hides) {
         write_line(&reply.with(b"".as_slice()), output).unwrap();
     }
@@ -309,13 +315,13 @@ fn hides_by(noreply: bool) -> Hides
     }
 }
 
-/// Serves a meta command by the word of its key, given a guess of its item. The value that it shows is read from the front of the cache.
+/// Serves a meta command by the word of its key, given a hint of its slot. The value that it shows is read from the front of the cache.
 fn serve_meta<S: Store + Drop>(
     command: &MetaCommand<&[u8], &[u8]>,
     form: &MetaForm<WordIter<'_>>,
     hides: Hides,
     cache: &mut Cache<S>,
-    guess: u32,
+    hint: Hint,
     moment: u64,
     output: &mut Vec<u8>,
 ) -> Result<(), AllocError>
@@ -330,7 +336,7 @@ fn serve_meta<S: Store + Drop>(
     ensures cache_kept { OnErr result (cache.new ≡ cache.old) }
     ensures output_kept { OnErr result (output.new.items ≡ output.old.items) }
 {
-    let reply = meta_reply(command, form.coded, cache, guess, moment)?;
+    let reply = meta_reply(command, form.coded, cache, hint, moment)?;
     if !reply.is_hidden(hides) {
         write_meta(
             command.word(),
@@ -343,12 +349,12 @@ fn serve_meta<S: Store + Drop>(
     Ok(())
 }
 
-/// Returns the cache's reply to a meta command by the word of its key, given a guess of its item. The value that it shows is first.
+/// Returns the cache's reply to a meta command by the word of its key, given a hint of its slot. The value that it shows is first.
 fn meta_reply<S: Store + Drop>(
     command: &MetaCommand<&[u8], &[u8]>,
     coded: bool,
     cache: &mut Cache<S>,
-    guess: u32,
+    hint: Hint,
     moment: u64,
 ) -> Result<Reply<()>, AllocError>
     requires moment { moment < 2 ^ 63 }
@@ -365,10 +371,10 @@ fn meta_reply<S: Store + Drop>(
     let mut room = [0; CODED_ROOM];
     match command {
         MetaCommand::Get { key, get } => {
-            Ok(cache.meta_get_by(key_bytes(coded, key, &mut room), guess, get, moment))
+            Ok(cache.meta_get(key_bytes(coded, key, &mut room), hint, get, moment))
         }
         MetaCommand::Update { update, show } => {
-            cache.meta_update_by(&update.said(coded, &mut room), guess, show, moment)
+            cache.meta_update(&update.said(coded, &mut room), hint, show, moment)
         }
     }
 }
@@ -391,16 +397,16 @@ pub fn serve_keys<S: Store + Drop>(
     ensures len { vec_len output.new ≤ vec_len output.old + (LINE_ROOM + keys_room KEY_ROOM keys.entry cache.old) }
 {
     for key in keys {
-        let guess = ahead.next();
-        serve_key(key, guess, exptime, with_cas, cache, moment, output);
+        let hint = ahead.next();
+        serve_key(key, hint, exptime, with_cas, cache, moment, output);
     }
     write_end(output).unwrap();
 }
 
-/// Serves a key of a retrieval command, given a guess of its item. The value that it shows is read from the front of the cache.
+/// Serves a key of a retrieval command, given a hint of its slot. The value that it shows is read from the front of the cache.
 fn serve_key<S: Store + Drop>(
     key: &[u8],
-    guess: u32,
+    hint: Hint,
     exptime: Option<i64>,
     with_cas: bool,
     cache: &mut Cache<S>,
@@ -418,7 +424,7 @@ fn serve_key<S: Store + Drop>(
     ensures shrinks { (other : List ℕ)
         → length (value_at other cache.new.items) ≤ length (value_at other cache.old.items) }
 {
-    let reply = cache.get_by(key, guess, exptime, with_cas, moment);
+    let reply = cache.get(key, hint, exptime, with_cas, moment);
     let reply = reply.with(cache.front_value());
     write_key(key, &reply, output).unwrap();
 }

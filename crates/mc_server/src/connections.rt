@@ -12,7 +12,7 @@ use mc_request::{CommandLine, command_line};
 use mc_request_reader::{ApartReader, Front, LentGet, Peek};
 use mc_store::Store;
 use mc_stream::{Gather, NoWriter};
-use mc_text::{give_back, let_go};
+use mc_text::{consume_front, shrink_if_idle};
 use std::alloc::Global;
 use std::io;
 use std::io::Read;
@@ -193,7 +193,7 @@ impl Connection {
         ensures writer_kept { OnErr result (writer.new ≡ writer.old) }
     {
         *went = 0;
-        if self.reader.is_short() {
+        if self.reader.needs_more() {
             return Ok(Limited::Turned(Turn::Idle));
         }
         if let Some(get) = self.reader.peek_get() {
@@ -252,7 +252,7 @@ impl Connection {
         ensures err { OnErr result (self.new ≡ self.old) }
         ensures cache_kept { OnErr result (cache.new ≡ cache.old) }
     {
-        match self.reader.peek_lone() {
+        match self.reader.peek_blockless() {
             None => {
                 if self.reader.has_set()
                     && let Some(turn) = self.turn_set(cache, moment, limit)
@@ -366,14 +366,14 @@ impl Connection {
         requires { count ≤ length self.old.output }
         ensures { self.new ≡ record self.old { output = drop count self.old.output } }
     {
-        self.sent = let_go(&mut self.output, self.sent + count);
+        self.sent = consume_front(&mut self.output, self.sent + count);
     }
 
     /// Frees the memory of each buffer that holds no byte, if more than `kept` bytes are reserved for it.
-    pub fn give_back(&mut self, kept: usize)
+    pub fn shrink_if_idle(&mut self, kept: usize)
         ensures { self.new ≡ self.old }
     {
-        self.reader.give_back(kept);
-        give_back(&mut self.output, kept);
+        self.reader.shrink_if_idle(kept);
+        shrink_if_idle(&mut self.output, kept);
     }
 }

@@ -3,7 +3,7 @@ ghost use Rattle.std.specs.Prelude.{◌≡◌, ◌+◌, ◌*◌, ◌-◌, ◌≤
 ghost use Rattle.std.specs.List.{list_all};
 ghost use Rattle.mc_text.specs.Keys.{is_plain_key};
 ghost use Rattle.mc_request.specs.declared.parts.Request.TheVariants.{Get};
-ghost use Rattle.mc_request.specs.declared.parts.Taken.TheVariants.{Whole};
+ghost use Rattle.mc_request.specs.declared.parts.Parsed.TheVariants.{Whole};
 ghost use Rattle.mc_stream.specs.Sides.{Writes};
 ghost use Rattle.mc_cache.specs.CacheState.{value_at, front_value};
 ghost use Rattle.mc_server.specs.Gathers.{PutsOut};
@@ -14,9 +14,9 @@ use crate::ahead::Ahead;
 use crate::answering::serve_keys;
 use mc_cache::Cache;
 use mc_reply::{KEY_ROOM, LINE_ROOM, write_end, write_head};
-use mc_store::Store;
+use mc_store::{Hint, Store};
 use mc_stream::Gather;
-use mc_text::{WordIter, append, let_go};
+use mc_text::{WordIter, append, consume_front};
 
 /// A value of this many bytes or more is written without a copy: 64 KiB. Copying a shorter one costs no more than that saves.
 pub const GATHER_MIN: usize = 65_536;
@@ -89,11 +89,11 @@ fn lone_key<'a>(keys: &WordIter<'a>) -> Option<&'a [u8]>
     Some(key)
 }
 
-/// Serves a retrieval of one key, given a guess of its item. Its value is large.
+/// Serves a retrieval of one key, given a hint of its slot. Its value is large.
 #[inline(never)]
 fn serve_lone<S: Store + Drop, W: Gather>(
     key: &[u8],
-    guess: u32,
+    hint: Hint,
     with_cas: bool,
     cache: &mut Cache<S>,
     moment: u64,
@@ -111,17 +111,17 @@ fn serve_lone<S: Store + Drop, W: Gather>(
         ≤ length (drop sent output.old.items) + (LINE_ROOM + keys_room KEY_ROOM (key.now ∷ []) cache.old) }
     ensures half { 2 * result.sent ≤ vec_len output.new }
 {
-    if !serve_head(key, guess, with_cas, cache, moment, output) {
+    if !serve_head(key, hint, with_cas, cache, moment, output) {
         return Put { sent, went: 0 };
     }
     put_out(sent, output, cache.front_value(), writer)
 }
 
-/// Serves a retrieval of one key, given a guess of its item, except for the value and what follows it. It returns whether there is
+/// Serves a retrieval of one key, given a hint of its slot, except for the value and what follows it. It returns whether there is
 /// a value: it is that of the cache's first item. If there is none the answer is whole.
 fn serve_head<S: Store + Drop>(
     key: &[u8],
-    guess: u32,
+    hint: Hint,
     with_cas: bool,
     cache: &mut Cache<S>,
     moment: u64,
@@ -140,7 +140,7 @@ fn serve_head<S: Store + Drop>(
     ensures len { vec_len output.new ≤ vec_len output.old + KEY_ROOM }
     ensures room { vec_capacity output.old ≤ vec_capacity output.new }
 {
-    let Some(head) = cache.get_head(key, guess, with_cas, moment) else {
+    let Some(head) = cache.get_head(key, hint, with_cas, moment) else {
         write_end(output).unwrap();
         return false;
     };
@@ -168,7 +168,7 @@ fn put_out<W: Gather>(sent: usize, output: &mut Vec<u8>, value: &[u8], writer: &
     append(output, value_left);
     append(output, end_left);
     Put {
-        sent: let_go(output, sent + taken),
+        sent: consume_front(output, sent + taken),
         went,
     }
 }

@@ -3,7 +3,7 @@ ghost use Rattle.std.specs.Prelude.{◌≡◌, true, false};
 ghost use Rattle.mc_request.specs.Faults.{fault_line};
 ghost use Rattle.mc_request.specs.declared.faults.Fault.TheVariants.{OutOfMemory};
 ghost use Rattle.mc_request.specs.declared.parts.Request.TheVariants.{Version};
-ghost use Rattle.mc_request.specs.declared.parts.Taken.TheVariants.{Whole};
+ghost use Rattle.mc_request.specs.declared.parts.Parsed.TheVariants.{Whole};
 ghost use Rattle.mc_cache.specs.CacheState.{CacheState};
 ghost use Rattle.mc_server.specs.Served.{IsLegalAt, ServedRequest, answer_after};
 

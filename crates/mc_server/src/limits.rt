@@ -7,7 +7,7 @@ ghost use Rattle.mc_server.specs.Rooms.{keys_room, room_of, taken_bound};
 use crate::answering::{COMMAND_BOUND, bound_for, bound_for_get};
 use mc_cache::Cache;
 use mc_reply::{KEY_ROOM, LINE_ROOM};
-use mc_request::Asked;
+use mc_request::RequestRef;
 use mc_store::Store;
 use mc_text::WordIter;
 
@@ -34,7 +34,7 @@ impl AnswerLimit {
     pub fn is_passed<S: Store + Drop>(
         self,
         room: usize,
-        asked: &Asked<'_>,
+        asked: &RequestRef<'_>,
         cache: &Cache<S>,
     ) -> bool
         requires well_formed { is_well_formed (asked_of asked.now) ≡ true }

@@ -2,7 +2,7 @@
 ghost use Rattle.std.specs.Prelude.{◌≡◌, [], None};
 
 use mc_item::{Body, Deadline};
-use mc_store::{ListStore, Store};
+use mc_store::{Hint, ListStore, Store};
 use mc_text::Key;
 use std::alloc::Global;
 
@@ -42,32 +42,32 @@ impl Store for MeagreStore {
         self.list.longest()
     }
 
-    fn peek(&self, key: &[u8]) -> Option<&Body> {
-        self.list.peek(key)
+    fn find(&self, key: &[u8], hint: Hint) -> Option<(Hint, &Body)> {
+        self.list.find(key, hint)
     }
 
     fn front(&self) -> Option<&Body> {
         self.list.front()
     }
 
-    fn bring(&mut self, key: &[u8]) -> bool {
-        self.list.bring(key)
+    fn bring(&mut self, key: &[u8], hint: Hint) -> bool {
+        self.list.bring(key, hint)
     }
 
-    fn expire(&mut self, key: &[u8], expiry: Deadline) -> bool {
-        self.list.expire(key, expiry)
+    fn expire(&mut self, key: &[u8], hint: Hint, expiry: Deadline) -> bool {
+        self.list.expire(key, hint, expiry)
     }
 
-    fn mark(&mut self, key: &[u8], stale: bool, won: bool, cas: u64) -> bool {
-        self.list.mark(key, stale, won, cas)
+    fn mark(&mut self, key: &[u8], hint: Hint, stale: bool, won: bool, cas: u64) -> bool {
+        self.list.mark(key, hint, stale, won, cas)
     }
 
-    fn take(&mut self, key: &[u8]) -> Option<Body> {
-        self.list.take(key)
+    fn take(&mut self, key: &[u8], hint: Hint) -> Option<Body> {
+        self.list.take(key, hint)
     }
 
-    fn replace(&mut self, key: &[u8], body: Body) -> Result<Body, Body> {
-        self.list.replace(key, body)
+    fn replace(&mut self, key: &[u8], hint: Hint, body: Body) -> Result<Body, Body> {
+        self.list.replace(key, hint, body)
     }
 
     fn put_front(&mut self, key: Key, body: Body) -> Result<(), (Key, Body)> {

@@ -3,7 +3,7 @@ ghost use Rattle.std.specs.Prelude.{Some};
 ghost use Rattle.mc_serverd.specs.Chosen.{held_by};
 
 use mc_item::{Body, Deadline};
-use mc_store::{LruStore, Store, TableStore};
+use mc_store::{Hint, LruStore, Store, TableStore};
 use mc_table::SecretState;
 use mc_text::Key;
 use std::hash::RandomState;
@@ -44,17 +44,10 @@ impl Store for ChosenStore {
         }
     }
 
-    fn peek(&self, key: &[u8]) -> Option<&Body> {
+    fn find(&self, key: &[u8], hint: Hint) -> Option<(Hint, &Body)> {
         match self {
-            ChosenStore::Table(store) => store.peek(key),
-            ChosenStore::Lru(store) => store.peek(key),
-        }
-    }
-
-    fn find(&self, key: &[u8], guess: u32) -> Option<(u32, &Body)> {
-        match self {
-            ChosenStore::Table(store) => store.find(key, guess),
-            ChosenStore::Lru(store) => store.find(key, guess),
+            ChosenStore::Table(store) => store.find(key, hint),
+            ChosenStore::Lru(store) => store.find(key, hint),
         }
     }
 
@@ -65,94 +58,59 @@ impl Store for ChosenStore {
         }
     }
 
-    fn bring(&mut self, key: &[u8]) -> bool {
+    fn bring(&mut self, key: &[u8], hint: Hint) -> bool {
         match self {
-            ChosenStore::Table(store) => store.bring(key),
-            ChosenStore::Lru(store) => store.bring(key),
+            ChosenStore::Table(store) => store.bring(key, hint),
+            ChosenStore::Lru(store) => store.bring(key, hint),
         }
     }
 
-    fn bring_by(&mut self, key: &[u8], guess: u32) -> bool {
+    fn prefetches(&self) -> bool {
         match self {
-            ChosenStore::Table(store) => store.bring_by(key, guess),
-            ChosenStore::Lru(store) => store.bring_by(key, guess),
+            ChosenStore::Table(store) => store.prefetches(),
+            ChosenStore::Lru(store) => store.prefetches(),
         }
     }
 
-    fn guesses(&self) -> bool {
+    fn prefetch(&self, keys: &[&[u8]], hints: &mut [Hint]) -> u8 {
         match self {
-            ChosenStore::Table(store) => store.guesses(),
-            ChosenStore::Lru(store) => store.guesses(),
+            ChosenStore::Table(store) => store.prefetch(keys, hints),
+            ChosenStore::Lru(store) => store.prefetch(keys, hints),
         }
     }
 
-    fn guess_all(&self, keys: &[&[u8]], guesses: &mut [u32]) -> u8 {
+    fn expire(&mut self, key: &[u8], hint: Hint, expiry: Deadline) -> bool {
         match self {
-            ChosenStore::Table(store) => store.guess_all(keys, guesses),
-            ChosenStore::Lru(store) => store.guess_all(keys, guesses),
+            ChosenStore::Table(store) => store.expire(key, hint, expiry),
+            ChosenStore::Lru(store) => store.expire(key, hint, expiry),
         }
     }
 
-    fn expire(&mut self, key: &[u8], expiry: Deadline) -> bool {
+    fn mark(&mut self, key: &[u8], hint: Hint, stale: bool, won: bool, cas: u64) -> bool {
         match self {
-            ChosenStore::Table(store) => store.expire(key, expiry),
-            ChosenStore::Lru(store) => store.expire(key, expiry),
+            ChosenStore::Table(store) => store.mark(key, hint, stale, won, cas),
+            ChosenStore::Lru(store) => store.mark(key, hint, stale, won, cas),
         }
     }
 
-    fn expire_by(&mut self, key: &[u8], guess: u32, expiry: Deadline) -> bool {
+    fn first_hint(&self) -> Hint {
         match self {
-            ChosenStore::Table(store) => store.expire_by(key, guess, expiry),
-            ChosenStore::Lru(store) => store.expire_by(key, guess, expiry),
+            ChosenStore::Table(store) => store.first_hint(),
+            ChosenStore::Lru(store) => store.first_hint(),
         }
     }
 
-    fn mark(&mut self, key: &[u8], stale: bool, won: bool, cas: u64) -> bool {
+    fn take(&mut self, key: &[u8], hint: Hint) -> Option<Body> {
         match self {
-            ChosenStore::Table(store) => store.mark(key, stale, won, cas),
-            ChosenStore::Lru(store) => store.mark(key, stale, won, cas),
+            ChosenStore::Table(store) => store.take(key, hint),
+            ChosenStore::Lru(store) => store.take(key, hint),
         }
     }
 
-    fn mark_by(&mut self, key: &[u8], guess: u32, stale: bool, won: bool, cas: u64) -> bool {
+    fn replace(&mut self, key: &[u8], hint: Hint, body: Body) -> Result<Body, Body> {
         match self {
-            ChosenStore::Table(store) => store.mark_by(key, guess, stale, won, cas),
-            ChosenStore::Lru(store) => store.mark_by(key, guess, stale, won, cas),
-        }
-    }
-
-    fn first_guess(&self) -> u32 {
-        match self {
-            ChosenStore::Table(store) => store.first_guess(),
-            ChosenStore::Lru(store) => store.first_guess(),
-        }
-    }
-
-    fn take(&mut self, key: &[u8]) -> Option<Body> {
-        match self {
-            ChosenStore::Table(store) => store.take(key),
-            ChosenStore::Lru(store) => store.take(key),
-        }
-    }
-
-    fn take_by(&mut self, key: &[u8], guess: u32) -> Option<Body> {
-        match self {
-            ChosenStore::Table(store) => store.take_by(key, guess),
-            ChosenStore::Lru(store) => store.take_by(key, guess),
-        }
-    }
-
-    fn replace(&mut self, key: &[u8], body: Body) -> Result<Body, Body> {
-        match self {
-            ChosenStore::Table(store) => store.replace(key, body),
-            ChosenStore::Lru(store) => store.replace(key, body),
-        }
-    }
-
-    fn replace_by(&mut self, key: &[u8], guess: u32, body: Body) -> Result<Body, Body> {
-        match self {
-            ChosenStore::Table(store) => store.replace_by(key, guess, body),
-            ChosenStore::Lru(store) => store.replace_by(key, guess, body),
+            ChosenStore::Table(store) => store.replace(key, hint, body),
+            ChosenStore::Lru(store) => store.replace(key, hint, body),
         }
     }
 

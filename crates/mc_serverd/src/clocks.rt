@@ -6,14 +6,7 @@ use mc_net::{Stopwatch, wall_clock};
 use std::marker::Model;
 use std::rt::Clock;
 
-/// The source of a server's time.
-pub trait Seconds {
-    /// Returns the moment: whole seconds since 1970.
-    fn now(&mut self) -> u64
-        ensures { result < 2 ^ 63 };
-}
-
-/// The system's clock: the wall clock's time when this one was made, and from then on the time that has passed by the monotonic
+/// The clock of a server, the source of its moments: the wall clock's time when this one was made, and from then on the time that has passed by the monotonic
 /// clock. So setting the wall clock neither expires nor prolongs an item. Contracts see the moment that it returned last.
 ///
 /// Both parts are whole seconds, so a moment may be a second before that of a wall clock that was never set. While the machine
@@ -41,12 +34,10 @@ impl<'a, R: Clock> SystemSeconds<'a, R> {
             stopwatch: Stopwatch::new(rt),
         }
     }
-}
 
-impl<'a, R: Clock> Seconds for SystemSeconds<'a, R> {
-    /// Returns a moment that is never earlier than the last one. If the monotonic clock cannot be read, each moment is a second
-    /// after the one before.
-    fn now(&mut self) -> u64
+    /// Returns the moment, in whole seconds since 1970. It is never earlier than the last one. If the monotonic clock cannot be read,
+    /// each moment is a second after the one before.
+    pub fn now(&mut self) -> u64
         ensures bound { result < 2 ^ 63 }
         ensures told { result ≡ self.new }
         ensures never_back { self.old ≤ result }

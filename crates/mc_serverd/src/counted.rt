@@ -1,9 +1,9 @@
 //! A store that counts its operations.
 ghost use Rattle.std.specs.Prelude.{◌≡◌};
 
-use crate::counts::StoreStats;
+use crate::store_stats::StoreStats;
 use mc_item::{Body, Deadline};
-use mc_store::Store;
+use mc_store::{Hint, Store};
 use mc_text::Key;
 use std::rc::Rc;
 
@@ -50,60 +50,40 @@ impl<S: Store + Drop> Store for Counted<S> {
         self.store.longest()
     }
 
-    fn peek(&self, key: &[u8]) -> Option<&Body> {
-        self.store.peek(key)
-    }
-
-    fn find(&self, key: &[u8], guess: u32) -> Option<(u32, &Body)> {
-        self.store.find(key, guess)
+    fn find(&self, key: &[u8], hint: Hint) -> Option<(Hint, &Body)> {
+        self.store.find(key, hint)
     }
 
     fn front(&self) -> Option<&Body> {
         self.store.front()
     }
 
-    fn bring(&mut self, key: &[u8]) -> bool {
-        self.store.bring(key)
+    fn bring(&mut self, key: &[u8], hint: Hint) -> bool {
+        self.store.bring(key, hint)
     }
 
-    fn bring_by(&mut self, key: &[u8], guess: u32) -> bool {
-        self.store.bring_by(key, guess)
+    fn prefetches(&self) -> bool {
+        self.store.prefetches()
     }
 
-    fn guesses(&self) -> bool {
-        self.store.guesses()
+    fn prefetch(&self, keys: &[&[u8]], hints: &mut [Hint]) -> u8 {
+        self.store.prefetch(keys, hints)
     }
 
-    fn guess_all(&self, keys: &[&[u8]], guesses: &mut [u32]) -> u8 {
-        self.store.guess_all(keys, guesses)
+    fn expire(&mut self, key: &[u8], hint: Hint, expiry: Deadline) -> bool {
+        self.store.expire(key, hint, expiry)
     }
 
-    fn expire(&mut self, key: &[u8], expiry: Deadline) -> bool {
-        self.store.expire(key, expiry)
+    fn mark(&mut self, key: &[u8], hint: Hint, stale: bool, won: bool, cas: u64) -> bool {
+        self.store.mark(key, hint, stale, won, cas)
     }
 
-    fn expire_by(&mut self, key: &[u8], guess: u32, expiry: Deadline) -> bool {
-        self.store.expire_by(key, guess, expiry)
+    fn first_hint(&self) -> Hint {
+        self.store.first_hint()
     }
 
-    fn mark(&mut self, key: &[u8], stale: bool, won: bool, cas: u64) -> bool {
-        self.store.mark(key, stale, won, cas)
-    }
-
-    fn mark_by(&mut self, key: &[u8], guess: u32, stale: bool, won: bool, cas: u64) -> bool {
-        self.store.mark_by(key, guess, stale, won, cas)
-    }
-
-    fn first_guess(&self) -> u32 {
-        self.store.first_guess()
-    }
-
-    fn take(&mut self, key: &[u8]) -> Option<Body> {
-        self.take_by(key, 0)
-    }
-
-    fn take_by(&mut self, key: &[u8], guess: u32) -> Option<Body> {
-        let taken = self.store.take_by(key, guess);
+    fn take(&mut self, key: &[u8], hint: Hint) -> Option<Body> {
+        let taken = self.store.take(key, hint);
         if let Some(body) = &taken {
             if self.is_dead(body) {
                 self.counts.expire();
@@ -113,14 +93,10 @@ impl<S: Store + Drop> Store for Counted<S> {
         taken
     }
 
-    fn replace(&mut self, key: &[u8], body: Body) -> Result<Body, Body> {
-        self.replace_by(key, 0, body)
-    }
-
-    fn replace_by(&mut self, key: &[u8], guess: u32, body: Body) -> Result<Body, Body> {
+    fn replace(&mut self, key: &[u8], hint: Hint, body: Body) -> Result<Body, Body> {
         // A body with the number 0 is a placeholder, while the value of the stored one is moved out and changed.
         let is_stored = body.cas > 0;
-        let replaced = self.store.replace_by(key, guess, body);
+        let replaced = self.store.replace(key, hint, body);
         if let Ok(before) = &replaced {
             if self.is_dead(before) {
                 self.counts.expire();

@@ -3,9 +3,9 @@ ghost use Rattle.std.specs.Prelude.{◌≡◌, codes, decimal, map};
 ghost use Rattle.mc_serverd.specs.Settings.{cas_from_word, settings_shown, shown, store_word};
 
 use crate::cas_from::CasFrom;
-use crate::counts::StoreStats;
 use crate::kinds::StoreKind;
 use crate::settings::{Service, Settings};
+use crate::store_stats::StoreStats;
 use mc_admin::{Setting, Sheet, Value, push_client_figures, push_store_figures};
 use mc_net::{Listed, Operators, Report, process_number, resident_memory};
 use mc_server::MAX_CONNECTIONS;

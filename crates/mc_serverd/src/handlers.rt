@@ -3,10 +3,10 @@ ghost use Rattle.std.specs.Prelude.{◌≡◌, ◌<◌, ◌^◌, None, IsSome, l
 ghost use Rattle.mc_server.specs.ServerState.{connection_at};
 ghost use Rattle.mc_pump.specs.Pumps.{Pumps};
 
-use crate::counts::StoreStats;
 use crate::options::PROGRAM;
 use crate::sides::{Received, Sent};
-use mc_net::{AfterPump, Client, Guard, Handler, Input, PIECE_LEN, step_after};
+use crate::store_stats::StoreStats;
+use mc_net::{AfterPump, Client, Handler, PIECE_LEN, guarded, step_after};
 use mc_program::{EprintSeldom, OncePerSecond, Said};
 use mc_pump::{Pumped, Watch, pump_gathering};
 use mc_server::{AnswerLimit, Server, ServerError};
@@ -128,14 +128,14 @@ impl<S: Store + Drop> Handler<()> for ServerHandler<S> {
         }
         self.note_refused_stores();
         if !self.server.holds_reserve(self.reserve) {
-            self.server.give_back(client.number, 0);
+            self.server.shrink_if_idle(client.number, 0);
             let _ = self.server.keep_reserve(self.reserve);
         }
         step_after(pumped)
     }
 
-    fn give_back(&mut self, number: u64, room: usize) {
-        self.server.give_back(number, room);
+    fn shrink_if_idle(&mut self, number: u64, room: usize) {
+        self.server.shrink_if_idle(number, room);
     }
 
     fn owes(&self, number: u64) -> bool {
@@ -162,15 +162,9 @@ fn pump_client<S: Store + Drop>(
         None None None None client.old.ended client.new.ended watch.old.no_memory watch.new.no_memory }
     ensures number { client.new.number ≡ client.old.number }
 {
-    let mut input = Input {
-        stream: Received {
-            stream: Guard {
-                stream: &client.stream,
-                first: client.first,
-            },
-            failed: false,
-        },
-        readiness: client.readiness,
+    let mut input = Received {
+        stream: guarded(&client.stream, client.first, client.readiness),
+        failed: false,
     };
     let mut output = Sent {
         stream: &client.stream,
@@ -186,7 +180,7 @@ fn pump_client<S: Store + Drop>(
         moment,
         watch,
     );
-    client.readiness = input.readiness;
+    client.readiness = input.stream.readiness;
     client.first = input.stream.stream.first;
-    (pumped, input.stream.failed || output.failed)
+    (pumped, input.failed || output.failed)
 }

@@ -8,7 +8,7 @@
 //! It accepts, reads, serves and writes the connections of its clients.
 //!
 //! [`serve`] serves the connections of a listener ([`bind`]) over one cache, with [`Settings`], at the moments of a clock
-//! ([`Seconds`], [`SystemSeconds`]). Its core is [`mc_pump::pump`], which carries one connection's bytes between a server and the two
+//! ([`SystemSeconds`]). Its core is [`mc_pump::pump`], which carries one connection's bytes between a server and the two
 //! sides of a stream, and has the law of one connection. [`command`] and [`Options`] are the command line of the program [`PROGRAM`].
 //!
 //! [`tell_memory`] reports how much memory a server with its settings may come to take. [`serve`] reports on standard error, at
@@ -24,22 +24,21 @@ mod cas_from;
 mod chosen;
 mod clocks;
 mod counted;
-mod counts;
 mod figures;
 mod groups;
 mod handlers;
-mod hosts;
 mod items;
 mod kinds;
 mod memory;
 mod options;
 mod refusals;
+mod server_loops;
 mod serving;
 mod settings;
 mod sides;
+mod store_stats;
 
 use clocks::SystemSeconds;
-use hosts::other_files;
 use mc_net::{Operators, bind};
 use mc_program::{
     EprintSeldom, Failure, LogOption, LoggingRuntime, ServeError, exit_status, is_read,
@@ -48,6 +47,7 @@ use mc_program::{
 use mc_server::MAX_CONNECTIONS;
 use memory::tell_memory;
 use options::{Options, PROGRAM, command};
+use server_loops::other_files;
 use serving::serve;
 use std::alloc::Global;
 use std::fs::Files;

@@ -6,12 +6,12 @@ ghost use Rattle.mc_serverd.specs.Chosen.{held_by};
 
 use crate::cas_from::last_number;
 use crate::chosen::ChosenStore;
-use crate::clocks::Seconds;
+use crate::clocks::SystemSeconds;
 use crate::counted::Counted;
-use crate::counts::StoreStats;
-use crate::hosts::ServerLoop;
 use crate::kinds::StoreKind;
+use crate::server_loops::ServerLoop;
 use crate::settings::Settings;
+use crate::store_stats::StoreStats;
 use mc_cache::Cache;
 use mc_item::CasCounter;
 use mc_net::{Operators, serve_rounds};
@@ -26,6 +26,7 @@ use std::hash::RandomState;
 use std::net::Net;
 use std::random::RandomSource;
 use std::rc::Rc;
+use std::rt::Clock;
 use std::sync::Wait;
 
 /// The error of a server that cannot listen since its hashes have no seed.
@@ -40,14 +41,14 @@ const NO_SEED: ServeError = ServeError::Listen(ListenError::NoSeed);
 /// ever, unless the settings say after how many seconds without memory it ends. A connection that fails is closed, and the others go on. A
 /// round of the poll reads the clock once. Operators are served at the end of a round, by what the server has done. A write to standard
 /// error waits for its reader; if it fails nothing else changes.
-pub fn serve<R: Net + RandomSource + Wait + Files + Print + EprintSeldom, C: Seconds>(
+pub fn serve<R: Net + RandomSource + Wait + Files + Print + EprintSeldom + Clock>(
     rt: &R,
     alloc: Global,
     listen: &str,
     listener: TcpListener,
     settings: &Settings,
     operators: Operators,
-    clock: &mut C,
+    clock: &mut SystemSeconds<'_, R>,
 ) -> Result<(), ServeError> {
     let counts = Rc::new(alloc, StoreStats::new()).map_err(|_| ServeError::Memory)?;
     let start = clock.now();

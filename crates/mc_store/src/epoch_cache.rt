@@ -8,6 +8,7 @@ ghost use Rattle.mc_store.specs.Items.{body_at, front_body, without, brought, ex
 use crate::epoch_entries::EpochEntry;
 use crate::recent::Recent;
 use mc_item::{Body, Deadline, cost};
+use mc_table::Hint;
 use mc_text::Key;
 use std::marker::Model;
 use std::mem;
@@ -16,8 +17,8 @@ use std::mem;
 ///
 /// The entries of the cache's own epoch are live, and are before all others. [`EpochCache::clear`] begins the next epoch, in which
 /// all entries are dead. Dead entries are not counted and not found. A call with a key frees the dead entry of that key, except
-/// that [`EpochCache::peek`], [`EpochCache::find`] and [`EpochCache::guess_all`] free none. [`EpochCache::put_front`], and an
-/// [`EpochCache::replace`] that finds its key, free more of them from the back, and [`EpochCache::drop_last`] frees all.
+/// that [`EpochCache::find`] and [`EpochCache::prefetch`] free none. [`EpochCache::put_front`], and an [`EpochCache::replace`] that finds
+/// its key, free more of them from the back, and [`EpochCache::drop_last`] frees all.
 ///
 /// Contracts see the live items, the dead entries, and the most items that the cache may have.
 #[derive(Drop)]
@@ -64,24 +65,16 @@ impl<M: Recent> EpochCache<M> {
         self.count
     }
 
-    /// Returns the body under the key. The order stays.
-    pub fn peek(&self, key: &[u8]) -> Option<&Body>
-        ensures { option_copied result ≡ body_at key.now self.now.items }
-    {
-        let (_, body) = self.find(key, 0)?;
-        Some(body)
-    }
-
-    /// Returns the body under the key, and a guess of its entry ([`Recent::find`]). The guess is right until an entry is removed, a
-    /// dead one too. The order stays.
-    pub fn find(&self, key: &[u8], guess: u32) -> Option<(u32, &Body)>
+    /// Returns the body under the key, and a hint of its entry's slot. The hint is right until an entry is removed, a dead one too. The
+    /// order stays.
+    pub fn find(&self, key: &[u8], hint: Hint) -> Option<(Hint, &Body)>
         ensures { option_map (λ found. found.1.now) result ≡ body_at key.now self.now.items }
     {
-        let (guess, held) = self.cache.find(key, guess)?;
+        let (hint, held) = self.cache.find(key, hint)?;
         if self.epoch != held.epoch {
             return None;
         }
-        Some((guess, &held.body))
+        Some((hint, &held.body))
     }
 
     /// Returns the body of the first item.
@@ -96,21 +89,12 @@ impl<M: Recent> EpochCache<M> {
     }
 
     /// Moves the key's item to the front, and returns whether it exists.
-    pub fn bring(&mut self, key: &[u8]) -> bool
+    pub fn bring(&mut self, key: &[u8], hint: Hint) -> bool
         ensures held { result ≡ is_some (body_at key.now self.old.items) }
         ensures items { self.new.items ≡ brought key.now (body_at key.now self.old.items) self.old.items }
         ensures most { self.new.most ≡ self.old.most }
     {
-        self.bring_by(key, 0)
-    }
-
-    /// Does what [`EpochCache::bring`] does, given a guess of the entry.
-    pub fn bring_by(&mut self, key: &[u8], guess: u32) -> bool
-        ensures held { result ≡ is_some (body_at key.now self.old.items) }
-        ensures items { self.new.items ≡ brought key.now (body_at key.now self.old.items) self.old.items }
-        ensures most { self.new.most ≡ self.old.most }
-    {
-        let Some(held) = self.cache.get_mut_by(key, guess) else {
+        let Some(held) = self.cache.get_mut(key, hint) else {
             return false;
         };
         if held.epoch != self.epoch {
@@ -120,37 +104,28 @@ impl<M: Recent> EpochCache<M> {
         true
     }
 
-    /// Returns whether [`EpochCache::guess_all`] guesses.
-    pub fn guesses(&self) -> bool {
-        self.cache.guesses()
+    /// Returns whether [`EpochCache::prefetch`] prefetches.
+    pub fn prefetches(&self) -> bool {
+        self.cache.prefetches()
     }
 
-    /// Prefetches: writes a guess of each key's entry. The returned byte only keeps the loads alive ([`Recent::guess_all`]).
-    pub fn guess_all(&self, keys: &[&[u8]], guesses: &mut [u32]) -> u8 {
-        self.cache.guess_all(keys, guesses)
+    /// Prefetches: writes a hint of each key's entry. The returned byte only keeps the loads alive ([`Recent::prefetch`]).
+    pub fn prefetch(&self, keys: &[&[u8]], hints: &mut [Hint]) -> u8 {
+        self.cache.prefetch(keys, hints)
     }
 
-    /// Returns the guess that is right for the first item.
-    pub fn first_guess(&self) -> u32 {
-        self.cache.first_guess()
+    /// Returns the hint that is right for the first item.
+    pub fn first_hint(&self) -> Hint {
+        self.cache.first_hint()
     }
 
     /// Sets the expiry of the key's item, moves it to the front, and returns whether it exists.
-    pub fn expire(&mut self, key: &[u8], expiry: Deadline) -> bool
+    pub fn expire(&mut self, key: &[u8], hint: Hint, expiry: Deadline) -> bool
         ensures held { result ≡ is_some (body_at key.now self.old.items) }
         ensures items { self.new.items ≡ brought key.now (expiring expiry (body_at key.now self.old.items)) self.old.items }
         ensures most { self.new.most ≡ self.old.most }
     {
-        self.expire_by(key, 0, expiry)
-    }
-
-    /// Does what [`EpochCache::expire`] does, given a guess of the entry.
-    pub fn expire_by(&mut self, key: &[u8], guess: u32, expiry: Deadline) -> bool
-        ensures held { result ≡ is_some (body_at key.now self.old.items) }
-        ensures items { self.new.items ≡ brought key.now (expiring expiry (body_at key.now self.old.items)) self.old.items }
-        ensures most { self.new.most ≡ self.old.most }
-    {
-        let Some(held) = self.cache.get_mut_by(key, guess) else {
+        let Some(held) = self.cache.get_mut(key, hint) else {
             return false;
         };
         if held.epoch != self.epoch {
@@ -162,21 +137,12 @@ impl<M: Recent> EpochCache<M> {
     }
 
     /// Sets the two marks and the number of the key's item, moves it to the front, and returns whether it exists.
-    pub fn mark(&mut self, key: &[u8], stale: bool, won: bool, cas: u64) -> bool
+    pub fn mark(&mut self, key: &[u8], hint: Hint, stale: bool, won: bool, cas: u64) -> bool
         ensures held { result ≡ is_some (body_at key.now self.old.items) }
         ensures items { self.new.items ≡ brought key.now (marking stale won cas (body_at key.now self.old.items)) self.old.items }
         ensures most { self.new.most ≡ self.old.most }
     {
-        self.mark_by(key, 0, stale, won, cas)
-    }
-
-    /// Does what [`EpochCache::mark`] does, given a guess of the entry.
-    pub fn mark_by(&mut self, key: &[u8], guess: u32, stale: bool, won: bool, cas: u64) -> bool
-        ensures held { result ≡ is_some (body_at key.now self.old.items) }
-        ensures items { self.new.items ≡ brought key.now (marking stale won cas (body_at key.now self.old.items)) self.old.items }
-        ensures most { self.new.most ≡ self.old.most }
-    {
-        let Some(held) = self.cache.get_mut_by(key, guess) else {
+        let Some(held) = self.cache.get_mut(key, hint) else {
             return false;
         };
         if held.epoch != self.epoch {
@@ -190,23 +156,13 @@ impl<M: Recent> EpochCache<M> {
     }
 
     /// Removes and returns the key's item.
-    pub fn take(&mut self, key: &[u8]) -> Option<(Key, Body)>
+    pub fn take(&mut self, key: &[u8], hint: Hint) -> Option<(Key, Body)>
         ensures item { IfSome result (λ item. (item.0 ≡ key.now) × (body_at key.now self.old.items ≡ Some item.1)) }
         ensures none { IfNone result (body_at key.now self.old.items ≡ None) }
         ensures items { self.new.items ≡ without key.now self.old.items }
         ensures most { self.new.most ≡ self.old.most }
     {
-        self.take_by(key, 0)
-    }
-
-    /// Does what [`EpochCache::take`] does, given a guess of the entry.
-    pub fn take_by(&mut self, key: &[u8], guess: u32) -> Option<(Key, Body)>
-        ensures item { IfSome result (λ item. (item.0 ≡ key.now) × (body_at key.now self.old.items ≡ Some item.1)) }
-        ensures none { IfNone result (body_at key.now self.old.items ≡ None) }
-        ensures items { self.new.items ≡ without key.now self.old.items }
-        ensures most { self.new.most ≡ self.old.most }
-    {
-        match self.cache.pop_entry_by(key, guess) {
+        match self.cache.pop_entry(key, hint) {
             Some((own, held)) => {
                 if held.epoch != self.epoch {
                     return None;
@@ -222,7 +178,7 @@ impl<M: Recent> EpochCache<M> {
     /// at least two that cost at least as many bytes as the value has, and no more than that takes.
     ///
     /// If the key is not stored, `Err` returns the new body.
-    pub fn replace(&mut self, key: &[u8], body: Body) -> Result<Body, Body>
+    pub fn replace(&mut self, key: &[u8], hint: Hint, body: Body) -> Result<Body, Body>
         ensures before { IfOk result (λ before. body_at key.now self.old.items ≡ Some before) }
         ensures ok { OnOk result (self.new.items ≡ (key.now, body) ∷ without key.now self.old.items) }
         ensures absent { OnErr result (body_at key.now self.old.items ≡ None) }
@@ -231,20 +187,7 @@ impl<M: Recent> EpochCache<M> {
         ensures dead { OnOk result (IsLetGo (length body.value) 0 self.old.dead self.new.dead) }
         ensures most { self.new.most ≡ self.old.most }
     {
-        self.replace_by(key, 0, body)
-    }
-
-    /// Does what [`EpochCache::replace`] does, given a guess of the entry.
-    pub fn replace_by(&mut self, key: &[u8], guess: u32, body: Body) -> Result<Body, Body>
-        ensures before { IfOk result (λ before. body_at key.now self.old.items ≡ Some before) }
-        ensures ok { OnOk result (self.new.items ≡ (key.now, body) ∷ without key.now self.old.items) }
-        ensures absent { OnErr result (body_at key.now self.old.items ≡ None) }
-        ensures back { IfErr result (λ back. back ≡ body) }
-        ensures err { OnErr result (self.new.items ≡ self.old.items) }
-        ensures dead { OnOk result (IsLetGo (length body.value) 0 self.old.dead self.new.dead) }
-        ensures most { self.new.most ≡ self.old.most }
-    {
-        let Some(held) = self.cache.get_mut_by(key, guess) else {
+        let Some(held) = self.cache.get_mut(key, hint) else {
             return Err(body);
         };
         if held.epoch != self.epoch {

@@ -10,7 +10,7 @@ use crate::stores::Store;
 use crate::sums::Sums;
 use lru::LruCache;
 use mc_item::{Body, Deadline, cost};
-use mc_table::Table;
+use mc_table::{Hint, Table};
 use mc_text::Key;
 use std::alloc::{AllocError, Global};
 use std::hash::{BuildHasher, BuildHasherDefault, FoldHasher};
@@ -54,13 +54,13 @@ pub type TableStore<H> = HashStore<Table<Key, EpochEntry, H>>;
 ///
 /// # Work
 ///
-/// A call with a key hashes it once and searches once. Given a guess that is right, it does neither. `put_front` hashes its key twice, and
-/// `guess_all` each key once. `len`, `used`, `longest`, `front` and `clear` hash nothing. Removing the last entry, or a dead one, hashes
+/// A call with a key hashes it once and searches once. Given a hint that is right, it does neither. `put_front` hashes its key twice, and
+/// `prefetch` each key once. `len`, `used`, `longest`, `front` and `clear` hash nothing. Removing the last entry, or a dead one, hashes
 /// nothing in a [`TableStore`], and that entry's key in an [`LruStore`]. So none of these takes longer if more items are stored, as long as
 /// the hash spreads the keys, except as said of `put_front` below.
 ///
 /// `clear` begins a new epoch, which makes all entries dead. They are not counted and not found, and they are freed later. A call with a
-/// key frees the dead entry of that key, except that `peek`, `find` and `guess_all` free none. Each `put_front` frees at least two more,
+/// key frees the dead entry of that key, except that `peek`, `find` and `prefetch` free none. Each `put_front` frees at least two more,
 /// until they cost as much as the item or none is left. Each `replace` that finds its key frees as many for the new value. `drop_last`
 /// frees all of them first. Freeing one costs as much as removing the last entry. While dead entries are left no store makes the entries
 /// cost more, or be more, live and dead together. So a store that is kept within a budget and a limit has no dead ones left when it evicts
@@ -176,72 +176,48 @@ impl<M: Recent> Store for HashStore<M> {
         self.sums.longest()
     }
 
-    fn peek(&self, key: &[u8]) -> Option<&Body> {
-        self.cache.peek(key)
-    }
-
-    fn find(&self, key: &[u8], guess: u32) -> Option<(u32, &Body)> {
-        self.cache.find(key, guess)
+    fn find(&self, key: &[u8], hint: Hint) -> Option<(Hint, &Body)> {
+        self.cache.find(key, hint)
     }
 
     fn front(&self) -> Option<&Body> {
         self.cache.front()
     }
 
-    fn bring(&mut self, key: &[u8]) -> bool {
-        self.cache.bring(key)
+    fn bring(&mut self, key: &[u8], hint: Hint) -> bool {
+        self.cache.bring(key, hint)
     }
 
-    fn bring_by(&mut self, key: &[u8], guess: u32) -> bool {
-        self.cache.bring_by(key, guess)
+    fn prefetches(&self) -> bool {
+        self.cache.prefetches()
     }
 
-    fn guesses(&self) -> bool {
-        self.cache.guesses()
+    fn prefetch(&self, keys: &[&[u8]], hints: &mut [Hint]) -> u8 {
+        self.cache.prefetch(keys, hints)
     }
 
-    fn guess_all(&self, keys: &[&[u8]], guesses: &mut [u32]) -> u8 {
-        self.cache.guess_all(keys, guesses)
+    fn expire(&mut self, key: &[u8], hint: Hint, expiry: Deadline) -> bool {
+        self.cache.expire(key, hint, expiry)
     }
 
-    fn expire(&mut self, key: &[u8], expiry: Deadline) -> bool {
-        self.cache.expire(key, expiry)
+    fn mark(&mut self, key: &[u8], hint: Hint, stale: bool, won: bool, cas: u64) -> bool {
+        self.cache.mark(key, hint, stale, won, cas)
     }
 
-    fn expire_by(&mut self, key: &[u8], guess: u32, expiry: Deadline) -> bool {
-        self.cache.expire_by(key, guess, expiry)
+    fn first_hint(&self) -> Hint {
+        self.cache.first_hint()
     }
 
-    fn mark(&mut self, key: &[u8], stale: bool, won: bool, cas: u64) -> bool {
-        self.cache.mark(key, stale, won, cas)
-    }
-
-    fn mark_by(&mut self, key: &[u8], guess: u32, stale: bool, won: bool, cas: u64) -> bool {
-        self.cache.mark_by(key, guess, stale, won, cas)
-    }
-
-    fn first_guess(&self) -> u32 {
-        self.cache.first_guess()
-    }
-
-    fn take(&mut self, key: &[u8]) -> Option<Body> {
-        self.take_by(key, 0)
-    }
-
-    fn take_by(&mut self, key: &[u8], guess: u32) -> Option<Body> {
-        let item = self.cache.take_by(key, guess)?;
+    fn take(&mut self, key: &[u8], hint: Hint) -> Option<Body> {
+        let item = self.cache.take(key, hint)?;
         self.sums
             .take_away(cost(&item.0, &item.1), item.1.value.len());
         Some(body_of(item))
     }
 
-    fn replace(&mut self, key: &[u8], body: Body) -> Result<Body, Body> {
-        self.replace_by(key, 0, body)
-    }
-
-    fn replace_by(&mut self, key: &[u8], guess: u32, body: Body) -> Result<Body, Body> {
+    fn replace(&mut self, key: &[u8], hint: Hint, body: Body) -> Result<Body, Body> {
         let length = body.value.len();
-        match self.cache.replace_by(key, guess, body) {
+        match self.cache.replace(key, hint, body) {
             Ok(before) => {
                 let shorter = before.value.len();
                 self.sums.take_away(shorter as u64, shorter);

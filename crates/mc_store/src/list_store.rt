@@ -7,13 +7,14 @@ ghost use Rattle.mc_store.specs.Places.{HoldsAt};
 
 use crate::stores::Store;
 use mc_item::{Body, Deadline, cost};
+use mc_table::Hint;
 use mc_text::Key;
 use std::alloc::Global;
 use std::marker::Model;
 use std::mem;
 
 /// The items in a plain list, and what they cost. Each call with a key searches the list once, from the front, and
-/// `longest` reads all of it.
+/// `longest` reads all of it. It has no slots, and ignores hints.
 ///
 /// Contracts see the keys and bodies. What they cost together stays below 2^63.
 #[derive(Drop)]
@@ -63,9 +64,9 @@ impl Store for ListStore {
         longest_in(self.entries.as_slice())
     }
 
-    fn peek(&self, key: &[u8]) -> Option<&Body> {
+    fn find(&self, key: &[u8], _hint: Hint) -> Option<(Hint, &Body)> {
         let place = place_of(self.entries.as_slice(), key)?;
-        Some(&self.entries[place].1)
+        Some((Hint::none(), &self.entries[place].1))
     }
 
     fn front(&self) -> Option<&Body> {
@@ -73,11 +74,11 @@ impl Store for ListStore {
         Some(&entry.1)
     }
 
-    fn bring(&mut self, key: &[u8]) -> bool {
+    fn bring(&mut self, key: &[u8], _hint: Hint) -> bool {
         brought(&mut self.entries, key)
     }
 
-    fn expire(&mut self, key: &[u8], expiry: Deadline) -> bool {
+    fn expire(&mut self, key: &[u8], _hint: Hint, expiry: Deadline) -> bool {
         if !brought(&mut self.entries, key) {
             return false;
         }
@@ -85,7 +86,7 @@ impl Store for ListStore {
         true
     }
 
-    fn mark(&mut self, key: &[u8], stale: bool, won: bool, cas: u64) -> bool {
+    fn mark(&mut self, key: &[u8], _hint: Hint, stale: bool, won: bool, cas: u64) -> bool {
         if !brought(&mut self.entries, key) {
             return false;
         }
@@ -96,13 +97,13 @@ impl Store for ListStore {
         true
     }
 
-    fn take(&mut self, key: &[u8]) -> Option<Body> {
+    fn take(&mut self, key: &[u8], _hint: Hint) -> Option<Body> {
         let (own, body) = taken_out(&mut self.entries, key)?;
         self.used -= cost(&own, &body);
         Some(body)
     }
 
-    fn replace(&mut self, key: &[u8], body: Body) -> Result<Body, Body> {
+    fn replace(&mut self, key: &[u8], _hint: Hint, body: Body) -> Result<Body, Body> {
         if !brought(&mut self.entries, key) {
             return Err(body);
         }

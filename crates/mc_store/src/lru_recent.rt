@@ -1,4 +1,4 @@
-//! lru's cache, as entries by key with the most recently used first.
+//! lru's cache, as entries by key with the most recently used first. It has no slots, and ignores hints.
 ghost use Rattle.std.specs.Prelude.{Some, refl};
 ghost use Rattle.lru.specs.LruCache.{lru_cache};
 ghost use Rattle.mc_store.specs.Recents.{written};
@@ -6,6 +6,7 @@ ghost use Rattle.mc_store.specs.Recents.{written};
 use crate::epoch_entries::EpochEntry;
 use crate::recent::Recent;
 use lru::LruCache;
+use mc_table::Hint;
 use mc_text::{Key, KeyBytes};
 use std::hash::BuildHasher;
 
@@ -26,8 +27,9 @@ impl<H: BuildHasher> Recent for LruCache<Key, EpochEntry, H> {
     }
 
     #[inline]
-    fn peek(&self, key: &[u8]) -> Option<&EpochEntry> {
-        LruCache::peek(self, KeyBytes { bytes: key })
+    fn find(&self, key: &[u8], _hint: Hint) -> Option<(Hint, &EpochEntry)> {
+        let held = LruCache::peek(self, KeyBytes { bytes: key })?;
+        Some((Hint::none(), held))
     }
 
     #[inline]
@@ -37,12 +39,12 @@ impl<H: BuildHasher> Recent for LruCache<Key, EpochEntry, H> {
     }
 
     #[inline]
-    fn get_mut(&mut self, key: &[u8]) -> Option<&mut EpochEntry> {
+    fn get_mut(&mut self, key: &[u8], _hint: Hint) -> Option<&mut EpochEntry> {
         LruCache::get_mut(self, KeyBytes { bytes: key })
     }
 
     #[inline]
-    fn pop_entry(&mut self, key: &[u8]) -> Option<(Key, EpochEntry)> {
+    fn pop_entry(&mut self, key: &[u8], _hint: Hint) -> Option<(Key, EpochEntry)> {
         LruCache::pop_entry(self, KeyBytes { bytes: key })
     }
 

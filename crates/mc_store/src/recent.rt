@@ -11,11 +11,13 @@ ghost use Rattle.mc_store.specs.Lends.{lends_held};
 ghost use Rattle.mc_store.specs.Recents.{written};
 
 use crate::epoch_entries::EpochEntry;
+use mc_table::Hint;
 use mc_text::Key;
 
 /// Entries by key, the most recently used first.
 ///
-/// A key is looked up by its bytes. Only [`Recent::put`] takes memory.
+/// A key is looked up by its bytes. A call that looks one up takes a hint of its entry's slot, which affects only the speed. Only
+/// [`Recent::put`] takes memory.
 pub trait Recent {
     /// The entries, most recent first.
     ghost entries: { Self → Entries };
@@ -32,65 +34,40 @@ pub trait Recent {
         ensures fits { result < 2 ^ 63 }
         ensures room { IfSome (room self.now) (λ most. result ≤ most) };
 
-    /// Returns the value of the key. The order stays.
-    fn peek(&self, key: &[u8]) -> Option<&EpochEntry>
-        ensures { option_copied result ≡ lookup (bytes_eq key.now) (entries self.now) };
-
-    /// Returns the value of the key, and a guess of its entry, for the other calls that take one. It is right until an entry is removed.
-    /// The entry of the given guess is compared first. The order stays.
-    fn find(&self, key: &[u8], _guess: u32) -> Option<(u32, &EpochEntry)>
-        ensures { option_map (λ found. found.1.now) result ≡ lookup (bytes_eq key.now) (entries self.now) }
-    {
-        Some((0, self.peek(key)?))
-    }
+    /// Returns the value of the key, and a hint of its entry's slot, which is right until an entry is removed. The order stays.
+    fn find(&self, key: &[u8], hint: Hint) -> Option<(Hint, &EpochEntry)>
+        ensures { option_map (λ found. found.1.now) result ≡ lookup (bytes_eq key.now) (entries self.now) };
 
     /// Returns the value of the first entry.
     fn front(&self) -> Option<&EpochEntry>
         ensures { option_copied result ≡ option_map (λ entry. entry.1) (slice_get (entries self.now) 0) };
 
     /// Returns the value of the key, to write to, and moves its entry to the front.
-    fn get_mut(&mut self, key: &[u8]) -> Option<&mut EpochEntry>
+    fn get_mut(&mut self, key: &[u8], hint: Hint) -> Option<&mut EpochEntry>
         ensures* writes_back { sem 𝓛 (lends_held Self.row self.entry result (λ held. lent self.old key.now held)) }
         ensures value { option_copied_mut result ≡ lookup (bytes_eq key.now) (entries self.old) };
 
-    /// Does what [`Recent::get_mut`] does, given a guess of the entry ([`Recent::guess_all`], [`Recent::find`]). A guess affects only the
-    /// speed.
-    fn get_mut_by(&mut self, key: &[u8], _guess: u32) -> Option<&mut EpochEntry>
-        ensures* writes_back { sem 𝓛 (lends_held Self.row self.entry result (λ held. lent self.old key.now held)) }
-        ensures value { option_copied_mut result ≡ lookup (bytes_eq key.now) (entries self.old) }
-    {
-        self.get_mut(key)
-    }
-
-    /// Returns whether [`Recent::guess_all`] guesses: several entries are found faster together than each by itself.
-    fn guesses(&self) -> bool {
+    /// Returns whether [`Recent::prefetch`] prefetches: several entries are found faster together than each by itself.
+    fn prefetches(&self) -> bool {
         false
     }
 
-    /// Prefetches the entries of keys: writes a guess of each key's entry (0 is none). It is worth its time if [`Recent::guesses`]. A container
-    /// that never guesses leaves the guesses as they are. The returned byte is made of what was read, and only keeps the loads alive.
-    fn guess_all(&self, _keys: &[&[u8]], _guesses: &mut [u32]) -> u8 {
+    /// Prefetches the entries of keys: writes a hint of each key's entry, [`Hint::none`] if there is no such entry. It is worth its time if
+    /// [`Recent::prefetches`]. A container without slots leaves the hints as they are. The returned byte is made of what was read, and only
+    /// keeps the loads alive.
+    fn prefetch(&self, _keys: &[&[u8]], _hints: &mut [Hint]) -> u8 {
         0
     }
 
     /// Removes and returns the entry of the key.
-    fn pop_entry(&mut self, key: &[u8]) -> Option<(Key, EpochEntry)>
+    fn pop_entry(&mut self, key: &[u8], hint: Hint) -> Option<(Key, EpochEntry)>
         ensures value { result ≡ lookup_entry (bytes_eq key.now) (entries self.old) }
         ensures entries { entries self.new ≡ remove_entry (bytes_eq key.now) (entries self.old) }
         ensures room { room self.new ≡ room self.old };
 
-    /// Does what [`Recent::pop_entry`] does, given a guess of the entry.
-    fn pop_entry_by(&mut self, key: &[u8], _guess: u32) -> Option<(Key, EpochEntry)>
-        ensures value { result ≡ lookup_entry (bytes_eq key.now) (entries self.old) }
-        ensures entries { entries self.new ≡ remove_entry (bytes_eq key.now) (entries self.old) }
-        ensures room { room self.new ≡ room self.old }
-    {
-        self.pop_entry(key)
-    }
-
-    /// Returns the guess that is right for the first entry; 0 if none is known.
-    fn first_guess(&self) -> u32 {
-        0
+    /// Returns the hint that is right for the first entry; [`Hint::none`] if no slot is known.
+    fn first_hint(&self) -> Hint {
+        Hint::none()
     }
 
     /// Removes and returns the first entry.

@@ -5,11 +5,13 @@ ghost use Rattle.mc_item.specs.Costs.{cost_of};
 ghost use Rattle.mc_store.specs.Items.{Items, body_at, front_body, without, brought, expiring, marking, cost_sum, longest_of};
 
 use mc_item::{Body, Deadline};
+use mc_table::Hint;
 use mc_text::Key;
 
 /// The items of a cache, at most one under each key, most recent first.
 ///
-/// A key is looked up by its bytes. Only [`Store::put_front`] takes memory.
+/// A key is looked up by its bytes. A call that looks one up takes a hint of its item's slot ([`Hint`]), which affects only the speed. Only
+/// [`Store::put_front`] takes memory.
 pub trait Store {
     /// The keys and bodies, most recent first.
     ghost items: { Self → Items };
@@ -31,108 +33,70 @@ pub trait Store {
 
     /// Returns the body under the key. The order stays.
     fn peek(&self, key: &[u8]) -> Option<&Body>
-        ensures { option_copied result ≡ body_at key.now (items self.now) };
-
-    /// Returns the body under the key, and a guess of its item. The item of the given guess is compared first. The order stays.
-    ///
-    /// The guess is right until an item is inserted, replaced or removed. Calls other than [`Store::peek`], [`Store::find`] and
-    /// [`Store::guess_all`] also end it, if their key is not stored. Each of these may move items.
-    fn find(&self, key: &[u8], _guess: u32) -> Option<(u32, &Body)>
-        ensures { option_map (λ found. found.1.now) result ≡ body_at key.now (items self.now) }
+        ensures { option_copied result ≡ body_at key.now (items self.now) }
     {
-        Some((0, self.peek(key)?))
+        let (_, body) = self.find(key, Hint::none())?;
+        Some(body)
     }
+
+    /// Returns the body under the key, and a hint of its item's slot. The order stays.
+    ///
+    /// The hint is right until an item is inserted, replaced or removed. Calls other than [`Store::peek`], [`Store::find`] and
+    /// [`Store::prefetch`] also end it, if their key is not stored. Each of these may move items.
+    fn find(&self, key: &[u8], hint: Hint) -> Option<(Hint, &Body)>
+        ensures { option_map (λ found. found.1.now) result ≡ body_at key.now (items self.now) };
 
     /// Returns the body of the first item.
     fn front(&self) -> Option<&Body>
         ensures { option_copied result ≡ front_body (items self.now) };
 
     /// Moves the key's item to the front, and returns whether it exists.
-    fn bring(&mut self, key: &[u8]) -> bool
+    fn bring(&mut self, key: &[u8], hint: Hint) -> bool
         ensures held { result ≡ is_some (body_at key.now (items self.old)) }
         ensures items { items self.new ≡ brought key.now (body_at key.now (items self.old)) (items self.old) }
         ensures most { most self.new ≡ most self.old };
 
-    /// Does what [`Store::bring`] does, given a guess of the item ([`Store::guess_all`], [`Store::find`]). A guess affects only the
-    /// speed.
-    fn bring_by(&mut self, key: &[u8], _guess: u32) -> bool
-        ensures held { result ≡ is_some (body_at key.now (items self.old)) }
-        ensures items { items self.new ≡ brought key.now (body_at key.now (items self.old)) (items self.old) }
-        ensures most { most self.new ≡ most self.old }
-    {
-        self.bring(key)
-    }
-
-    /// Returns whether [`Store::guess_all`] guesses: several items are found faster together than each by itself.
-    fn guesses(&self) -> bool {
+    /// Returns whether [`Store::prefetch`] prefetches: several items are found faster together than each by itself.
+    fn prefetches(&self) -> bool {
         false
     }
 
-    /// Prefetches the items of keys: writes a guess of each key's item (0 is none), for [`Store::bring_by`] and the other calls that take
-    /// a guess. It is worth its time if [`Store::guesses`]. A store that never guesses leaves the guesses as they are. The returned byte
-    /// is made of what was read, and only keeps the loads alive.
-    fn guess_all(&self, _keys: &[&[u8]], _guesses: &mut [u32]) -> u8 {
+    /// Prefetches the items of keys: writes a hint of each key's item, [`Hint::none`] if there is no such item. It is worth its time if
+    /// [`Store::prefetches`]. A store without slots leaves the hints as they are. The returned byte is made of what was read, and only keeps
+    /// the loads alive.
+    fn prefetch(&self, _keys: &[&[u8]], _hints: &mut [Hint]) -> u8 {
         0
     }
 
     /// Sets the expiry of the key's item, moves it to the front, and returns whether it exists.
-    fn expire(&mut self, key: &[u8], expiry: Deadline) -> bool
+    fn expire(&mut self, key: &[u8], hint: Hint, expiry: Deadline) -> bool
         ensures held { result ≡ is_some (body_at key.now (items self.old)) }
         ensures items { items self.new
             ≡ brought key.now (expiring expiry (body_at key.now (items self.old))) (items self.old) }
         ensures most { most self.new ≡ most self.old };
-
-    /// Does what [`Store::expire`] does, given a guess of the item.
-    fn expire_by(&mut self, key: &[u8], _guess: u32, expiry: Deadline) -> bool
-        ensures held { result ≡ is_some (body_at key.now (items self.old)) }
-        ensures items { items self.new
-            ≡ brought key.now (expiring expiry (body_at key.now (items self.old))) (items self.old) }
-        ensures most { most self.new ≡ most self.old }
-    {
-        self.expire(key, expiry)
-    }
 
     /// Sets the two marks and the number of the key's item, moves it to the front, and returns whether it exists.
-    fn mark(&mut self, key: &[u8], stale: bool, won: bool, cas: u64) -> bool
+    fn mark(&mut self, key: &[u8], hint: Hint, stale: bool, won: bool, cas: u64) -> bool
         ensures held { result ≡ is_some (body_at key.now (items self.old)) }
         ensures items { items self.new
             ≡ brought key.now (marking stale won cas (body_at key.now (items self.old))) (items self.old) }
         ensures most { most self.new ≡ most self.old };
 
-    /// Does what [`Store::mark`] does, given a guess of the item.
-    fn mark_by(&mut self, key: &[u8], _guess: u32, stale: bool, won: bool, cas: u64) -> bool
-        ensures held { result ≡ is_some (body_at key.now (items self.old)) }
-        ensures items { items self.new
-            ≡ brought key.now (marking stale won cas (body_at key.now (items self.old))) (items self.old) }
-        ensures most { most self.new ≡ most self.old }
-    {
-        self.mark(key, stale, won, cas)
-    }
-
-    /// Returns the guess that is right for the first item; 0 if none is known.
-    fn first_guess(&self) -> u32 {
-        0
+    /// Returns the hint that is right for the first item; [`Hint::none`] if no slot is known.
+    fn first_hint(&self) -> Hint {
+        Hint::none()
     }
 
     /// Removes the key's item, and returns its body.
-    fn take(&mut self, key: &[u8]) -> Option<Body>
+    fn take(&mut self, key: &[u8], hint: Hint) -> Option<Body>
         ensures body { result ≡ body_at key.now (items self.old) }
         ensures items { items self.new ≡ without key.now (items self.old) }
         ensures most { most self.new ≡ most self.old };
-
-    /// Does what [`Store::take`] does, given a guess of the item.
-    fn take_by(&mut self, key: &[u8], _guess: u32) -> Option<Body>
-        ensures body { result ≡ body_at key.now (items self.old) }
-        ensures items { items self.new ≡ without key.now (items self.old) }
-        ensures most { most self.new ≡ most self.old }
-    {
-        self.take(key)
-    }
 
     /// Replaces the body under a stored key, moves its item to the front, and returns the old body.
     ///
     /// If the key is not stored, `Err` returns the new body.
-    fn replace(&mut self, key: &[u8], body: Body) -> Result<Body, Body>
+    fn replace(&mut self, key: &[u8], hint: Hint, body: Body) -> Result<Body, Body>
         requires { cost_sum (items self.old) + cost_of key.now body.value < 2 ^ 63 }
         ensures before { IfOk result (λ before. body_at key.now (items self.old) ≡ Some before) }
         ensures ok { OnOk result (items self.new ≡ (key.now, body) ∷ without key.now (items self.old)) }
@@ -140,19 +104,6 @@ pub trait Store {
         ensures back { IfErr result (λ back. back ≡ body) }
         ensures err { OnErr result (items self.new ≡ items self.old) }
         ensures most { most self.new ≡ most self.old };
-
-    /// Does what [`Store::replace`] does, given a guess of the item.
-    fn replace_by(&mut self, key: &[u8], _guess: u32, body: Body) -> Result<Body, Body>
-        requires { cost_sum (items self.old) + cost_of key.now body.value < 2 ^ 63 }
-        ensures before { IfOk result (λ before. body_at key.now (items self.old) ≡ Some before) }
-        ensures ok { OnOk result (items self.new ≡ (key.now, body) ∷ without key.now (items self.old)) }
-        ensures absent { OnErr result (body_at key.now (items self.old) ≡ None) }
-        ensures back { IfErr result (λ back. back ≡ body) }
-        ensures err { OnErr result (items self.new ≡ items self.old) }
-        ensures most { most self.new ≡ most self.old }
-    {
-        self.replace(key, body)
-    }
 
     /// Inserts an item in front, under a key that is not stored.
     ///

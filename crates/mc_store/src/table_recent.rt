@@ -4,17 +4,17 @@ ghost use Rattle.mc_store.specs.Recents.{written};
 
 use crate::epoch_entries::EpochEntry;
 use crate::recent::Recent;
-use mc_table::Table;
+use mc_table::{Hint, Table};
 use mc_text::{Key, KeyBytes};
 use std::hash::BuildHasher;
 
-/// With fewer entries it makes no guesses: their memory is near the processor.
+/// With fewer entries it prefetches none: their memory is near the processor.
 const MANY: usize = 32_768;
 
 /// The offsets in a value whose cache lines are prefetched. A cache line has 64 bytes.
 const LINES: [usize; 4] = [0, 64, 128, 192];
 
-/// The most keys whose entries are guessed at once.
+/// The most keys whose entries are prefetched at once.
 const AT_ONCE: usize = 32;
 
 /// Prefetches the key and the value of an entry: returns the first byte of the key, those at `LINES` of the value and its last, joined by
@@ -49,13 +49,8 @@ impl<H: BuildHasher> Recent for Table<Key, EpochEntry, H> {
     }
 
     #[inline]
-    fn peek(&self, key: &[u8]) -> Option<&EpochEntry> {
-        Table::peek(self, KeyBytes { bytes: key })
-    }
-
-    #[inline]
-    fn find(&self, key: &[u8], guess: u32) -> Option<(u32, &EpochEntry)> {
-        Table::find(self, KeyBytes { bytes: key }, guess)
+    fn find(&self, key: &[u8], hint: Hint) -> Option<(Hint, &EpochEntry)> {
+        Table::find(self, KeyBytes { bytes: key }, hint)
     }
 
     #[inline]
@@ -65,48 +60,38 @@ impl<H: BuildHasher> Recent for Table<Key, EpochEntry, H> {
     }
 
     #[inline]
-    fn get_mut(&mut self, key: &[u8]) -> Option<&mut EpochEntry> {
-        Table::get_mut(self, KeyBytes { bytes: key })
+    fn get_mut(&mut self, key: &[u8], hint: Hint) -> Option<&mut EpochEntry> {
+        Table::get_mut(self, KeyBytes { bytes: key }, hint)
     }
 
     #[inline]
-    fn get_mut_by(&mut self, key: &[u8], guess: u32) -> Option<&mut EpochEntry> {
-        Table::get_mut_by(self, KeyBytes { bytes: key }, guess)
-    }
-
-    #[inline]
-    fn guesses(&self) -> bool {
+    fn prefetches(&self) -> bool {
         Table::len(self) >= MANY
     }
 
-    fn guess_all(&self, keys: &[&[u8]], guesses: &mut [u32]) -> u8 {
+    fn prefetch(&self, keys: &[&[u8]], hints: &mut [Hint]) -> u8 {
         let mut read = 0;
-        for (keys, guesses) in keys.chunks(AT_ONCE).zip(guesses.chunks_mut(AT_ONCE)) {
+        for (keys, hints) in keys.chunks(AT_ONCE).zip(hints.chunks_mut(AT_ONCE)) {
             let mut tags = [0; AT_ONCE];
             for (tag, key) in tags.iter_mut().zip(keys) {
                 *tag = self.tag(KeyBytes { bytes: key });
             }
-            Table::guess_all(self, &tags, guesses);
-            for guess in guesses.iter().filter(|guess| **guess != 0) {
-                read ^= touch_value_lines(self.guessed(*guess)) ^ self.prefetch_neighbours(*guess);
+            Table::prefetch(self, &tags, hints);
+            for hint in hints.iter().filter(|hint| **hint != Hint::none()) {
+                read ^= touch_value_lines(self.hinted(*hint)) ^ self.prefetch_neighbours(*hint);
             }
         }
         read
     }
 
     #[inline]
-    fn pop_entry(&mut self, key: &[u8]) -> Option<(Key, EpochEntry)> {
-        Table::pop_entry(self, KeyBytes { bytes: key })
+    fn pop_entry(&mut self, key: &[u8], hint: Hint) -> Option<(Key, EpochEntry)> {
+        Table::pop_entry(self, KeyBytes { bytes: key }, hint)
     }
 
     #[inline]
-    fn pop_entry_by(&mut self, key: &[u8], guess: u32) -> Option<(Key, EpochEntry)> {
-        Table::pop_entry_by(self, KeyBytes { bytes: key }, guess)
-    }
-
-    #[inline]
-    fn first_guess(&self) -> u32 {
-        Table::first_guess(self)
+    fn first_hint(&self) -> Hint {
+        Table::first_hint(self)
     }
 
     #[inline]

@@ -39,12 +39,12 @@ pub fn read_once<R: Read>(
     requires goes_on { ended.old ≡ false }
     ensures { Reads result piece.new ended.new (R.remaining reader.old) (R.remaining reader.new) }
 {
-    told(reader.read(piece), ended)
+    read_result(reader.read(piece), ended)
 }
 
 /// Interprets the result of a read that another caller made, as [`read_once`] interprets its own. It returns how many bytes
 /// arrived, which are the first of the piece. 0 is the end, and sets `ended`. An error is interpreted likewise.
-pub fn told(read: Result<usize, Error>, ended: &mut bool) -> Result<usize, Pumped>
+pub fn read_result(read: Result<usize, Error>, ended: &mut bool) -> Result<usize, Pumped>
     requires goes_on { ended.old ≡ false }
     ensures came { IfOk read (λ count. (result ≡ Ok count) × (ended.new ≡ (count == 0))) }
     ensures error { IfErr read (λ error. MovesNothing result × (ended.new ≡ false)) }

@@ -2,7 +2,7 @@
 use Rattle.std.proofs.Common.{◌≡◌, ◌≢◌, ℕ, ◌<◌, List, length, set, ap, ◌∙◌, get_or-set_other, get_or-set_same, arith}
 use Rattle.std.proofs.lemmas.Bool.{cases_eq}
 use Rattle.std.proofs.lemmas.List.{length-set}
-use Rattle.mc_table.specs.declared.links.LruNode.{LruNode}
+use Rattle.mc_table.specs.declared.lru_nodes.LruNode.{LruNode}
 use Rattle.mc_table.specs.Rings.{no_link, link_at, with_after, with_before, joined, unlinked, linked_before}
 
 -- one write: what it leaves at its place and elsewhere

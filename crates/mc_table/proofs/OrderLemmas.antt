@@ -5,7 +5,7 @@ use Rattle.std.specs.Prelude.{Vec}
 use Rattle.std.specs.Vec.{with_items}
 use Rattle.std.proofs.lemmas.Bool.{cases_eq}
 use Rattle.std.proofs.lemmas.Bool.Decides.{nat_tests}
-use Rattle.mc_table.specs.declared.links.LruNode.{LruNode}
+use Rattle.mc_table.specs.declared.lru_nodes.LruNode.{LruNode}
 use Rattle.mc_table.specs.Places.{Member, Apart, AllApart, first_of, last_of, left_out, renumbered, AreAll}
 use Rattle.mc_table.specs.Rings.{no_link, link_at, unlinked, linked_before, places_of, Leads, IsRing}
 use Rattle.mc_table.proofs.LinkLemmas.{length-unlinked, length-linked_before}

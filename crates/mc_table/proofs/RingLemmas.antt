@@ -1,7 +1,7 @@
 -- Rings: what unlinking a place and linking it before another leave.
 use Rattle.std.proofs.Common.{◌≡◌, ℕ, ◌<◌, inl, inr, List, [], ◌∷◌, ◌++◌, length, refl, sym, ap, ◌∙◌, subst, arith}
 use Rattle.std.proofs.lemmas.List.{append-nil}
-use Rattle.mc_table.specs.declared.links.LruNode.{LruNode}
+use Rattle.mc_table.specs.declared.lru_nodes.LruNode.{LruNode}
 use Rattle.mc_table.specs.Places.{Member, Apart, AllApart, first_of, last_from}
 use Rattle.mc_table.specs.Rings.{link_at, joined, unlinked, linked_before, walk, places_of, Leads, IsRing}
 use Rattle.mc_table.proofs.LinkLemmas.{length-joined, after-joined, after-joined_other, before-joined, before-joined_other}

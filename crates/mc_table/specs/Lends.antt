@@ -7,7 +7,7 @@ use Rattle.std.specs.declared.hash.Hasher as hasher
 use Rattle.std.specs.declared.hash.BuildHasher as builder
 use Rattle.mc_table.specs.Tables.{with_value}
 use Rattle.mc_table.specs.contracts.tables.Table.{the_row}
-use Rattle.mc_table.specs.contracts.chained.HashIndex.{the_row as chained_row}
+use Rattle.mc_table.specs.contracts.hash_indexes.HashIndex.{the_row as chained_row}
 
 module _ (K V S H : RattleType) (key : HashMembers K.Denot) (build : builder.Ghosts S.Denot H.Denot) (hash : hasher.Ghosts H.Denot) (t : MutBor (List (K.Denot × V.Denot))) where
   -- it has the entries es, with the last value written through r at the key that passes the test; at `None` it stays

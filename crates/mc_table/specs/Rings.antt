@@ -1,7 +1,7 @@
 -- A ring of links: the places of an order, and the place 0, which is before the first and after the last. This
 -- project's own.
 use Rattle.std.specs.Prelude.{◌≡◌, ℕ, zero, suc, ◌-◌, ◌≤◌, ◌^◌, List, [], ◌∷◌, length, slice_index_or, slice_set}
-use Rattle.mc_table.specs.declared.links.LruNode.{LruNode}
+use Rattle.mc_table.specs.declared.lru_nodes.LruNode.{LruNode}
 use Rattle.mc_table.specs.Places.{AreAll}
 
 -- a link that leads to the place 0 both ways

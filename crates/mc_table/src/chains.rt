@@ -7,12 +7,13 @@ ghost use Rattle.std.specs.List.{swap_remove};
 ghost use Rattle.mc_table.specs.Chains.{bucket_of, falls, at_place, link, heads_with, nexts_with, IsAbove};
 ghost use Rattle.mc_table.specs.Slots.{entries_of, tags_of, nexts_of, Stands, NoneStands, AreChained};
 
+use crate::hints::Hint;
 use crate::slots::Slot;
 use std::collections::hash_map::Equivalent;
 use std::hash::Hash;
 
-/// How many slots of a chain a guess compares.
-const GUESSED_STEPS: usize = 2;
+/// How many slots of a chain a prefetch compares.
+const PREFETCHED_STEPS: usize = 2;
 
 /// Returns the bucket of a tag.
 #[inline]
@@ -66,22 +67,22 @@ pub(crate) fn stands_at<K: Eq + Hash, V, Q: Equivalent<K>>(
     query.equivalent(&slot.key)
 }
 
-/// Writes a guess of the place of each tag. A place that has another tag, or none, does no harm, since a look-up compares the key.
+/// Writes a hint of the slot of each tag. A slot that has another tag, or none, does no harm, since a look-up compares the key.
 /// The heads of all tags are read first, and then the slots, so that the processor loads the memory of many at once.
-pub(crate) fn guess_all<K, V>(
+pub(crate) fn prefetch<K, V>(
     heads: &Vec<u32>,
     slots: &Vec<Slot<K, V>>,
     tags: &[u32],
-    places: &mut [u32],
+    hints: &mut [Hint],
 )
     requires { 0 < length heads.now.items }
 {
-    for (place, tag) in places.iter_mut().zip(tags) {
-        *place = heads[bucket_of(*tag, heads.len())];
+    for (hint, tag) in hints.iter_mut().zip(tags) {
+        hint.slot = heads[bucket_of(*tag, heads.len())];
     }
-    for _ in 0..GUESSED_STEPS {
-        for (place, tag) in places.iter_mut().zip(tags) {
-            *place = passed(slots, *place, *tag);
+    for _ in 0..PREFETCHED_STEPS {
+        for (hint, tag) in hints.iter_mut().zip(tags) {
+            hint.slot = passed(slots, hint.slot, *tag);
         }
     }
 }

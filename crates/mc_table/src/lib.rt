@@ -1,14 +1,14 @@
 //! Three containers: a table of entries in the order of their last use, the hasher of its keys, and a list of things under rising numbers.
 //!
 //! A [`Table`] finds an entry by its key's hash, and knows which one was used most recently. [`Table::put`] and [`Table::put_front`] insert an entry
-//! in front. [`Table::peek`] and [`Table::peek_mru`] read one, and [`Table::get_mut`] brings one to the front to change it. [`Table::pop_entry`],
+//! in front. [`Table::find`] and [`Table::peek_mru`] read one, and [`Table::get_mut`] brings one to the front to change it. [`Table::pop_entry`],
 //! [`Table::pop_mru`] and [`Table::pop_lru`] remove one, and [`Table::clear`] removes all. Contracts say what each call leaves by the entries, most
-//! recent first, in std's words of a map and those of `specs/Tables.antt`. A caller that will look several keys up may prefetch them
-//! ([`Table::guess_all`]), which gives a guess of each key's entry. A caller that looks one up again has a guess from [`Table::find`]. Calls that
-//! take a guess ([`Table::get_mut_by`], [`Table::pop_entry_by`]) do what those without do, faster if the guess is right.
+//! recent first, in std's words of a map and those of `specs/Tables.antt`. A call that looks a key up takes a slot hint ([`Hint`]). A caller that
+//! looks the key up again has one from [`Table::find`], and a caller that will look several keys up gets theirs by prefetching them
+//! ([`Table::prefetch`]).
 //!
-//! The entries are in one vector (`chained.rt`), and each is in the chain of its hash's bucket (`chains.rt`). The last entry takes the place of
-//! a removed one. Their order is in links of its own (`orders.rt`), so a use writes to three links and moves no entry. Only `put` and
+//! The entries are in one vector (`hash_indexes.rt`), and each is in the chain of its hash's bucket (`chains.rt`). The last entry takes the place of
+//! a removed one. Their order is in links of its own (`lru_lists.rt`), so a use writes to three links and moves no entry. Only `put` and
 //! `put_front` take memory, and only `clear` does work that grows with the entries.
 //!
 //! # Hashes of keys
@@ -37,24 +37,26 @@
 //! `specs/Entries.antt` defines what is under a number, and what a change and a removal leave. Only `push` takes memory.
 #![tactic(auto)]
 
-mod chained;
 mod chains;
+mod hash_indexes;
+mod hints;
 mod key_hashers;
-mod links;
+mod lru_lists;
+mod lru_nodes;
 mod numbered;
-mod orders;
 mod slots;
 mod tables;
 
 // A crate can name a table in a contract only if the types of its fields are exported.
 #[doc(hidden)]
-pub use chained::HashIndex;
+pub use hash_indexes::HashIndex;
+pub use hints::Hint;
 pub use key_hashers::{KeyHasher, SecretState};
 #[doc(hidden)]
-pub use links::LruNode;
-pub use numbered::Numbered;
+pub use lru_lists::LruList;
 #[doc(hidden)]
-pub use orders::LruList;
+pub use lru_nodes::LruNode;
+pub use numbered::Numbered;
 #[doc(hidden)]
 pub use slots::Slot;
 pub use tables::Table;

@@ -1,14 +1,15 @@
 //! Tables: entries that are found by a hash, in the order of their last use.
 ghost use Rattle.std.specs.Prelude.{◌≡◌, ◌^◌, ◌<◌, [], ◌∷◌, ◌++◌, suc, length, drop, slice_get, IfOk, IfErr, IfSome, IfNone, OnOk, OnErr, None, Some};
-ghost use Rattle.std.specs.Option.{option_copied, option_copied_mut, option_map};
+ghost use Rattle.std.specs.Option.{option_copied_mut, option_map};
 ghost use Rattle.std.specs.Borrow.{sem};
 ghost use Rattle.std.specs.Map.{lookup, lookup_entry, remove_entry};
 ghost use Rattle.std.specs.Map.Iter.{deref_pair};
 ghost use Rattle.mc_table.specs.Places.{left_out};
 ghost use Rattle.mc_table.specs.Tables.{in_order, promoted, put_entry, IsTable};
 
-use crate::chained::HashIndex;
-use crate::orders::LruList;
+use crate::hash_indexes::HashIndex;
+use crate::hints::Hint;
+use crate::lru_lists::LruList;
 use std::alloc::{AllocError, AllocFailed, Global};
 use std::collections::hash_map::Equivalent;
 use std::hash::{BuildHasher, Hash};
@@ -21,7 +22,7 @@ use std::mem;
 ///
 /// # Work
 ///
-/// A call with a key hashes it once and searches once. Given a guess that is right, it does neither. `put` hashes a key that is not there
+/// A call with a key hashes it once and searches once. Given a hint that is right, it does neither. `put` hashes a key that is not there
 /// twice. `put_front` and `tag` hash once and search nothing, and the other calls hash nothing. A search passes the entries of one bucket.
 /// Removing an entry passes those of two: its own, and that of the last entry, which takes its place. The constructor fixes the number of
 /// buckets: at least one for each entry that it takes room for (up to 2^31). So only `clear` does work that grows with the entries, as
@@ -75,37 +76,21 @@ impl<K: Eq + Hash, V, S: BuildHasher> Table<K, V, S> {
         self.entries.len()
     }
 
-    /// Returns the value of the key. The order stays.
-    pub fn peek<Q: Equivalent<K>>(&self, k: Q) -> Option<&V>
-        ensures { option_copied result ≡ lookup (Q.equivalent k) self.now }
-    {
-        let index = self.entries.get_index_of(k)?;
-        Some(self.entries.at(index).1)
-    }
-
-    /// Returns the value of the key, and a guess of its entry, which is right until an entry is removed. The entry of the given guess is
-    /// compared first. The order stays.
-    pub fn find<Q: Equivalent<K>>(&self, k: Q, guess: u32) -> Option<(u32, &V)>
+    /// Returns the value of the key, and a hint of its slot, which is right until an entry is removed. The order stays.
+    pub fn find<Q: Equivalent<K>>(&self, k: Q, hint: Hint) -> Option<(Hint, &V)>
         ensures { option_map (λ found. found.1.now) result ≡ lookup (Q.equivalent k) self.now }
     {
-        let index = self.entries.get_index_by(k, guess)?;
-        Some((index as u32 + 1, self.entries.at(index).1))
+        let index = self.entries.get_index_of(k, hint)?;
+        let slot = index as u32 + 1;
+        Some((Hint { slot }, self.entries.at(index).1))
     }
 
     /// Removes and returns the key and its value.
-    pub fn pop_entry<Q: Equivalent<K>>(&mut self, k: Q) -> Option<(K, V)>
+    pub fn pop_entry<Q: Equivalent<K>>(&mut self, k: Q, hint: Hint) -> Option<(K, V)>
         ensures value { result ≡ lookup_entry (Q.equivalent k) self.old }
         ensures entries { self.new ≡ remove_entry (Q.equivalent k) self.old }
     {
-        self.pop_entry_by(k, 0)
-    }
-
-    /// Removes and returns the key and its value, given a guess of the entry.
-    pub fn pop_entry_by<Q: Equivalent<K>>(&mut self, k: Q, guess: u32) -> Option<(K, V)>
-        ensures value { result ≡ lookup_entry (Q.equivalent k) self.old }
-        ensures entries { self.new ≡ remove_entry (Q.equivalent k) self.old }
-    {
-        let Some(index) = self.entries.get_index_by(k, guess) else {
+        let Some(index) = self.entries.get_index_of(k, hint) else {
             return None;
         };
         Some(remove_at(&mut self.entries, &mut self.order, index))
@@ -147,55 +132,48 @@ impl<K: Eq + Hash, V, S: BuildHasher> Table<K, V, S> {
     }
 
     /// Returns the value of the key, to write to, and makes it the most recently used.
-    pub fn get_mut<Q: Equivalent<K>>(&mut self, k: Q) -> Option<&mut V>
+    pub fn get_mut<Q: Equivalent<K>>(&mut self, k: Q, hint: Hint) -> Option<&mut V>
         ensures* writes_back { sem 𝓛 (lends_value K.row V.row S.row S.Hasher.row K.Hash S.BuildHasher S.Hasher.Hasher self.entry (Q.equivalent k) (promoted (Q.equivalent k) self.old) result) }
         ensures value { option_copied_mut result ≡ lookup (Q.equivalent k) self.old }
     {
-        self.get_mut_by(k, 0)
-    }
-
-    /// Returns the value of the key, as [`Table::get_mut`] does, given a guess of the entry ([`Table::guess_all`]), which is compared first. A
-    /// guess affects only the speed.
-    pub fn get_mut_by<Q: Equivalent<K>>(&mut self, k: Q, guess: u32) -> Option<&mut V>
-        ensures* writes_back { sem 𝓛 (lends_value K.row V.row S.row S.Hasher.row K.Hash S.BuildHasher S.Hasher.Hasher self.entry (Q.equivalent k) (promoted (Q.equivalent k) self.old) result) }
-        ensures value { option_copied_mut result ≡ lookup (Q.equivalent k) self.old }
-    {
-        let index = self.entries.get_index_by(k, guess)?;
+        let index = self.entries.get_index_of(k, hint)?;
         self.order.to_front(index as u32 + 1);
         Some(self.entries.value_mut(index))
     }
 
-    /// Returns the tag of a key, which [`Table::guess_all`] takes.
+    /// Returns the tag of a key, which [`Table::prefetch`] takes.
     #[inline]
     pub fn tag<Q: Hash + Copy>(&self, k: Q) -> u32 {
         self.entries.tag(k)
     }
 
-    /// Prefetches: for each tag it writes a guess of the entry that has a key of that tag (0 is none), and changes nothing else. A
-    /// guess may be wrong. One that is right stays right until an entry is removed. The heads and the entries of all tags are read in
-    /// groups, so the processor loads their memory at once: group prefetching, known from hash joins.
+    /// Prefetches: for each tag it writes a hint of the slot whose key has that tag ([`Hint::none`] if there is no such slot), and changes
+    /// nothing else. A hint may be wrong. One that is right stays right until an entry is removed. The heads and the slots of all tags are
+    /// read in groups, so the processor loads their memory at once: group prefetching, known from hash joins.
     #[inline]
-    pub fn guess_all(&self, tags: &[u32], guesses: &mut [u32]) {
-        self.entries.guess_all(tags, guesses);
+    pub fn prefetch(&self, tags: &[u32], hints: &mut [Hint]) {
+        self.entries.prefetch(tags, hints);
     }
 
-    /// Returns the guess that is right for the entry that was used most recently; 0 if there is none.
+    /// Returns the hint that is right for the entry that was used most recently; [`Hint::none`] if there is no entry.
     #[inline]
-    pub fn first_guess(&self) -> u32 {
-        self.order.first()
+    pub fn first_hint(&self) -> Hint {
+        Hint {
+            slot: self.order.first(),
+        }
     }
 
-    /// Returns the entry of a guess, if there is one.
+    /// Returns the entry in the slot of a hint, if there is one.
     #[inline]
-    pub fn guessed(&self, guess: u32) -> Option<(&K, &V)> {
-        self.entries.entry(guess)
+    pub fn hinted(&self, hint: Hint) -> Option<(&K, &V)> {
+        self.entries.entry(hint)
     }
 
-    /// Prefetches the neighbours in the order of the entry of a guess, before that entry is brought to the front. The returned byte only
-    /// keeps the loads alive.
+    /// Prefetches the neighbours in the order of the entry in the slot of a hint, before that entry is brought to the front. The returned
+    /// byte only keeps the loads alive.
     #[inline]
-    pub fn prefetch_neighbours(&self, guess: u32) -> u8 {
-        self.order.prefetch_neighbours(guess)
+    pub fn prefetch_neighbours(&self, hint: Hint) -> u8 {
+        self.order.prefetch_neighbours(hint.slot)
     }
 
     /// Inserts a value under a key, in front. If the key exists, it returns the old value, and the old key stays.
@@ -210,7 +188,7 @@ impl<K: Eq + Hash, V, S: BuildHasher> Table<K, V, S> {
         ensures value_returned { IfErr result (λ y. y.value ≡ (k, v)) }
         ensures err { OnErr result (self.new ≡ self.old) }
     {
-        if let Some(held) = self.get_mut(&k) {
+        if let Some(held) = self.get_mut(&k, Hint::none()) {
             return Ok(Some(mem::replace(held, v)));
         }
         self.put_front(k, v)?;

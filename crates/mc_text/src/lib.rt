@@ -5,7 +5,7 @@
 //! number. [`Key::plain`] makes a key of a word, and [`Key::of_bytes`] if the bytes are known to be a key. [`Key::coded`] makes a key of
 //! a word in base64. [`read_coded`] decodes such a word into the caller's room, [`is_coded_key`] only says whether it is a key, and
 //! [`write_coded`] encodes a key. [`KeyBytes`] queries a map of keys by bytes: a look-up makes no key. [`Block`] is the bytes of a data
-//! block. [`let_go`] and [`drop_front`] are for buffers that are consumed from the front. [`give_back`] is for a buffer that is not
+//! block. [`consume_front`] and [`drain_front`] are for buffers that are consumed from the front. [`shrink_if_idle`] is for a buffer that is not
 //! needed for a while, and [`append`] for one that has room.
 //!
 //! Each call returns exactly what the definition of its name in `specs/` says of the bytes. Spaces, line ends and key bytes are searched
@@ -63,7 +63,7 @@ pub use examples::{
     words_between_spaces,
 };
 pub use fields::{block, number, number_if, text};
-pub use fronts::{drop_front, give_back, let_go};
+pub use fronts::{consume_front, drain_front, shrink_if_idle};
 pub use key_bytes::KeyBytes;
 pub use keys::{KEY_LIMIT, Key, KeyError, are_plain_keys, is_plain_key};
 pub use laws::coded_keys_have_one_word;

@@ -5,8 +5,8 @@ use Rattle.std.proofs.lemmas.Bool.{and_from, and_parts, cases_lt}
 use Rattle.std.proofs.lemmas.Bool.Decides.{nat_tests}
 use Rattle.std.proofs.lemmas.List.Elements.{All-cons, All-head, All-nil, All-tail}
 use Rattle.mc_request.specs.Requests.{requests_of}
-use Rattle.mc_request.specs.declared.parts.Taken.{Taken}
-use Rattle.mc_request.specs.declared.parts.Taken.TheVariants.{Faulty, Whole}
+use Rattle.mc_request.specs.declared.parts.Parsed.{Parsed}
+use Rattle.mc_request.specs.declared.parts.Parsed.TheVariants.{Faulty, Whole}
 use Rattle.mc_request_reader.specs.Reader.{rest_of}
 use Rattle.mc_reply.specs.declared.replies.Reply.{Reply as AReply}
 use Rattle.mc_ring.specs.Rings.{IsRing, RingState}
@@ -24,8 +24,8 @@ use Rattle.mc_server.specs.Served.{ServedRequest}
 use Rattle.mc_proxy.specs.SessionState.{SessionState, link_at}
 use Rattle.mc_proxy.specs.ProxyState.{ProxyState, output_of, session_at, unanswered_of}
 use Rattle.mc_proxy.specs.Turns.{waiting_of}
-use Rattle.mc_account.specs.Lanes.{CanHave, Lane, LaneHolds, as_waiting, spelled, told}
-use Rattle.mc_account.specs.Orders.{IsSized, IsToldAs, Order, Tagged, TakenRequest, answers_of, commands_to, entries_of, outcomes_from, outcomes_in, outcomes_to, taken_of, unanswered_of as as_unanswered}
+use Rattle.mc_account.specs.Lanes.{CanHave, Lane, LaneHolds, as_waiting, replies_text, spelled}
+use Rattle.mc_account.specs.Orders.{HasChoice, IsSized, Order, Tagged, TakenRequest, answers_of, commands_to, entries_of, outcomes_from, outcomes_in, outcomes_to, taken_of, unanswered_of as as_unanswered}
 use Rattle.mc_account.specs.Holds.{ProxyHolds, SessionHolds, SessionHoldsAt, IsUnused}
 use Rattle.mc_account.proofs.OpenSessions.{own_number}
 use Rattle.mc_account.proofs.OrderLemmas.{lengths_to, passes_parts}
@@ -60,7 +60,7 @@ over_answered client order text out s h taken answered moved =
     let none : h.incomplete ≡ [] = map_none h.incomplete (sym h.unanswered ∙ none_of s.unanswered answered) in
     let all : entries_of client order ≡ h.done = h.split ∙ ap (λ (es : Order). h.done ++ es) none ∙ append-nil h.done in
     record {
-      asked = sym (append-nil (taken_of client order)) ∙ ap (λ (ts : List Taken). taken_of client order ++ ts) (sym taken) ∙ h.rest [] ∙ ap requests_of (append-nil text);
+      asked = sym (append-nil (taken_of client order)) ∙ ap (λ (ts : List Parsed). taken_of client order ++ ts) (sym taken) ∙ h.rest [] ∙ ap requests_of (append-nil text);
       put = sym (append-nil out) ∙ ap (λ (bytes : List ℕ). out ++ bytes) (sym moved) ∙ h.answered ∙ ap answers_of (sym all);
     }
 
@@ -114,7 +114,7 @@ home_made ring opening texts outs order lanes proxy began ended server sv holds 
     let whole : drop lane.since order ≡ order = ap (λ n. drop n order) since in
     let can_all_of : CanHave (commands_to server order) (map (λ (m : Made). m.reply) sv.made) = can_all opening sv.made (commands_to server order) sv.commands_are sv.made_is in
     let can_lane : CanHave (commands_to server order) lane.replies = subst (λ (es : Order). CanHave (commands_to server es) lane.replies) whole h.can in
-    let came : lane.came ≡ told (commands_to server order) lane.replies ++ link.unread = subst (λ (es : Order). lane.came ≡ told (commands_to server es) lane.replies ++ link.unread) whole h.came in
+    let came : lane.came ≡ replies_text (commands_to server order) lane.replies ++ link.unread = subst (λ (es : Order). lane.came ≡ replies_text (commands_to server es) lane.replies ++ link.unread) whole h.came in
     let front = told_front (commands_to server order) lane.replies (map (λ (m : Made). m.reply) sv.made) link.unread good can_lane can_all_of (sym came ∙ sv.told_is) in
     let waits : as_waiting (drop (length lane.replies) (commands_to server order)) ≡ [] =
     sym (subst (λ (es : Order). link.waiting ≡ as_waiting (drop (length lane.replies) (commands_to server es))) whole h.waiting) ∙ none in
@@ -170,7 +170,7 @@ none_from servers place (c ∷ cs) (x ∷ xs) above inside =
     rw not_here (none_from servers place cs xs above (All-tail (λ (c : Routed). c.server < servers) c cs inside))
 
 -- the commands of a request go to servers of the ring
-taken_inside : (ring : RingState) (what : Taken) → IsRing ring → All (λ (routed : Routed). routed.server < length ring.servers) (route_of_taken ring what)
+taken_inside : (ring : RingState) (what : Parsed) → IsRing ring → All (λ (routed : Routed). routed.server < length ring.servers) (route_of_taken ring what)
 taken_inside ring (Whole request) is_ring = route_inside ring request is_ring
 taken_inside ring (Faulty fault) is_ring = All-nil (λ (routed : Routed). routed.server < length ring.servers)
 
@@ -244,7 +244,7 @@ completes ring opening clients texts outs went came began ended proxy good_cache
         numbered = h.holds.numbered;
         rings = h.rings;
         sized = h.holds.sized;
-        chosen = subst (λ (losses : Losses). All (IsToldAs losses) h.order) h.losses_is h.holds.chosen;
+        chosen = subst (λ (losses : Losses). All (HasChoice losses) h.order) h.losses_is h.holds.chosen;
         all_replied = replied_order h.order h.holds.sized (λ place. ap (λ (xs : List Outcome). list_all is_reply xs) (all place).of.outcomes ∙ all_replies (all place).made);
         legal = λ server. legal_made opening h.order server (all server).made (all server).of;
         commands = λ server. tags_made_of opening h.order server (all server).made (all server).of;

@@ -4,7 +4,7 @@ use Rattle.std.specs.Prelude.{All}
 use Rattle.std.specs.List.{list_all}
 use Rattle.std.proofs.lemmas.Bool.{and_parts}
 use Rattle.mc_request.specs.Requests.{requests_of}
-use Rattle.mc_request.specs.declared.parts.Taken.{Taken}
+use Rattle.mc_request.specs.declared.parts.Parsed.{Parsed}
 use Rattle.mc_codec.specs.Spellings.{can_be_spelled}
 use Rattle.mc_codec.proofs.SayLemmas.{requests_can_be_spelled}
 use Rattle.mc_account.specs.Orders.{Order, TakenRequest, commands_in, commands_to, entries_of, taken_of}
@@ -31,4 +31,4 @@ good_to server (e ∷ es) spelled =
 pub good_texts : (server : ℕ) (es : Order) (texts : ℕ → List ℕ) → ((client : ℕ) → All (λ b. b < 256) (texts client)) → ((client : ℕ) → taken_of client es ≡ requests_of (texts client))
     → list_all is_good (commands_to server es) ≡ true
 good_texts server es texts bytes asked =
-    good_to server es (λ client. ap (λ (ts : List Taken). list_all can_be_spelled ts) (asked client) ∙ requests_can_be_spelled (texts client) (bytes client))
+    good_to server es (λ client. ap (λ (ts : List Parsed). list_all can_be_spelled ts) (asked client) ∙ requests_can_be_spelled (texts client) (bytes client))

@@ -6,8 +6,8 @@ use Rattle.std.proofs.lemmas.List.{map-append}
 use Rattle.std.proofs.lemmas.List.Elements.{All-head, All-tail}
 use Rattle.mc_request.specs.Requests.{requests_of}
 use Rattle.mc_request.specs.declared.parts.Request.TheVariants.{Quit}
-use Rattle.mc_request.specs.declared.parts.Taken.{Taken}
-use Rattle.mc_request.specs.declared.parts.Taken.TheVariants.{Whole}
+use Rattle.mc_request.specs.declared.parts.Parsed.{Parsed}
+use Rattle.mc_request.specs.declared.parts.Parsed.TheVariants.{Whole}
 use Rattle.mc_reply.specs.declared.replies.Reply.{Reply as AReply}
 use Rattle.mc_codec.proofs.SpelledTextLemmas.{quit_after}
 use Rattle.mc_cache.specs.CacheState.{CacheState}
@@ -18,7 +18,7 @@ use Rattle.mc_cache_laws.proofs.GoodStepLemmas.{answers_as_it_can, stays_good}
 use Rattle.mc_server.specs.Served.{IsLegalAt, ServedRequest, answer_after, cache_after}
 use Rattle.mc_server.specs.Histories.{IsLegalHistory, answers_to, replayed, taken_of}
 use Rattle.mc_server.proofs.HistoryLemmas.{answers-append}
-use Rattle.mc_account.specs.Lanes.{spelled, told}
+use Rattle.mc_account.specs.Lanes.{replies_text, spelled}
 use Rattle.mc_account.specs.Orders.{Tagged}
 use Rattle.mc_history.specs.Generations.{is_good}
 use Rattle.mc_history.specs.Made.{AreMade, Made, commands_on, read_as, replies_on, taking_of}
@@ -38,7 +38,7 @@ pub record IsServed (opening : CacheState) (began ended : List ℕ) (commands : 
   pub made : List Made
   pub made_is : AreMade opening made
   pub commands_are : map (λ (m : Made). m.command) made ≡ commands
-  pub told_is : sent ≡ told commands (map (λ (m : Made). m.reply) made)
+  pub told_is : sent ≡ replies_text commands (map (λ (m : Made). m.reply) made)
   pub quit : ℕ
   pub clocked : ended ≡ began ++ (map (λ (m : Made). m.moment) made ++ quit ∷ [])
 
@@ -61,19 +61,19 @@ all_taken : (history : List ServedRequest) → All (λ e. e.connection ≡ 0) hi
 all_taken [] only = refl
 all_taken (e ∷ es) only =
     let own = All-head (λ (x : ServedRequest). x.connection ≡ 0) e es only in
-    rw own (ap (λ (ts : List Taken). e.what ∷ ts) (all_taken es (All-tail (λ (x : ServedRequest). x.connection ≡ 0) e es only)))
+    rw own (ap (λ (ts : List Parsed). e.what ∷ ts) (all_taken es (All-tail (λ (x : ServedRequest). x.connection ≡ 0) e es only)))
 
-head_of_two : (x y : Taken) (xs ys : List Taken) → x ∷ xs ≡ y ∷ ys → x ≡ y
+head_of_two : (x y : Parsed) (xs ys : List Parsed) → x ∷ xs ≡ y ∷ ys → x ≡ y
 head_of_two x y xs ys e = cc
 
-tail_of_two : (x y : Taken) (xs ys : List Taken) → x ∷ xs ≡ y ∷ ys → xs ≡ ys
+tail_of_two : (x y : Parsed) (xs ys : List Parsed) → x ∷ xs ≡ y ∷ ys → xs ≡ ys
 tail_of_two x y xs ys e = cc
 
-entry_is : (e : ServedRequest) (what : Taken) → e.connection ≡ 0 → e.what ≡ what
+entry_is : (e : ServedRequest) (what : Parsed) → e.connection ≡ 0 → e.what ≡ what
     → e ≡ record { connection = 0; what = what; moment = e.moment; refused = e.refused }
 entry_is e what own same =
     let at : ℕ → ServedRequest = λ n. record { connection = n; what = e.what; moment = e.moment; refused = e.refused } in
-    let of : Taken → ServedRequest = λ t. record { connection = 0; what = t; moment = e.moment; refused = e.refused } in
+    let of : Parsed → ServedRequest = λ t. record { connection = 0; what = t; moment = e.moment; refused = e.refused } in
     ap at own ∙ ap of same
 
 tells : (s : CacheState) (commands : List Tagged) (history : List ServedRequest) → IsGoodCache s → map (λ (e : ServedRequest). e.what) history ≡ map read_as commands ++ Whole Quit ∷ []
@@ -154,7 +154,7 @@ pub served : (opening : CacheState) (began ended received sent : List ℕ) (hist
 served opening began ended received sent history commands good_cache h came good =
     let read : map (λ (e : ServedRequest). e.what) history ≡ map read_as commands ++ Whole Quit ∷ [] =
     sym (all_taken history h.only) ∙ h.taken ∙ ap requests_of came ∙ read_spelled commands (codes "quit\r\n") good
-    ∙ ap (λ (ts : List Taken). map read_as commands ++ ts) (quit_after [] refl) in
+    ∙ ap (λ (ts : List Parsed). map read_as commands ++ ts) (quit_after [] refl) in
     let t = tells opening commands history good_cache read h.only h.early h.legal good in
     record {
       made = t.made;
@@ -165,8 +165,8 @@ served opening began ended received sent history commands good_cache h came good
           ∙ ap (λ (bytes : List ℕ). answers_to 0 opening (map taking_of t.made) ++ bytes) (last_silent (replayed opening (map taking_of t.made)) t.last t.last_is)
           ∙ append-nil (answers_to 0 opening (map taking_of t.made))
           ∙ told_on 0 opening t.made t.made_is
-          ∙ ap (λ (cs : List Tagged). told cs (replies_on 0 t.made)) (commands_first t.made t.first ∙ t.commands_are)
-          ∙ ap (λ (rs : List (AReply (List ℕ))). told commands rs) (replies_first t.made t.first);
+          ∙ ap (λ (cs : List Tagged). replies_text cs (replies_on 0 t.made)) (commands_first t.made t.first ∙ t.commands_are)
+          ∙ ap (λ (rs : List (AReply (List ℕ))). replies_text commands rs) (replies_first t.made t.first);
       quit = t.last.moment;
       clocked = h.clocked ∙ ap (λ (es : List ServedRequest). began ++ moments_of es) t.history_is
           ∙ ap (λ (ts : List ℕ). began ++ ts) (map-append (λ (e : ServedRequest). e.moment) (map taking_of t.made) (t.last ∷ []))

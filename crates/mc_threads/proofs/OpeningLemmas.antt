@@ -8,7 +8,7 @@ use Rattle.mc_route.specs.declared.losses.Losses.TheVariants.{Told}
 use Rattle.mc_link.specs.LinkState.{LinkState, down_link, up_link}
 use Rattle.mc_proxy.specs.SessionState.{link_at}
 use Rattle.mc_account.specs.Lanes.{LinkHolds, fresh_lane}
-use Rattle.mc_account.specs.Orders.{IsToldAs, TakenRequest, IsSized}
+use Rattle.mc_account.specs.Orders.{HasChoice, TakenRequest, IsSized}
 use Rattle.mc_account.proofs.LaneLemmas.{lane_fresh}
 use Rattle.mc_threads.specs.Talks.{Talks}
 
@@ -41,7 +41,7 @@ talks_opens ring is_ring = record {
   lanes = λ _. fresh_lane 0;
   holds = record {
     sized = All-nil IsSized;
-    chosen = All-nil (IsToldAs Told);
+    chosen = All-nil (HasChoice Told);
     numbered = λ number. refl;
     sessions = λ number. record { untaken = []; rest = sym no_requests; done = []; incomplete = []; split = refl; complete = refl; unsent = []; answered = refl };
     unused = λ number above. record { not_open = refl; nothing_came = refl; nothing_taken = refl; nothing_sent = refl };

@@ -15,7 +15,7 @@ use Rattle.mc_route.specs.declared.losses.Losses.{Losses}
 use Rattle.mc_link.specs.LinkState.{LinkState}
 use Rattle.mc_link.specs.declared.turns.Tag.{Tag}
 use Rattle.mc_proxy.specs.Emits.{IsEmit}
-use Rattle.mc_proxy.specs.SessionNoting.{noted_in}
+use Rattle.mc_proxy.specs.SessionNoting.{set_outcome_in_session}
 use Rattle.mc_proxy.specs.Sending.{handed}
 use Rattle.mc_proxy.specs.SessionState.{SessionState, fresh_session, link_at, with_link}
 use Rattle.mc_proxy.specs.SessionTurns.{IsFed, IsTurn, IsUnchanged}
@@ -27,7 +27,7 @@ use Rattle.mc_proxy.specs.LinkTurns.{Answers}
 use Rattle.mc_proxy.specs.Noting.{noted}
 use Rattle.mc_proxy.specs.ProxyState.{ProxyState, Sessions, output_of, sent_by, session_at, session_in, updated, with_fresh}
 use Rattle.mc_proxy.specs.Turns.{Alone, Steps}
-use Rattle.mc_account.specs.Lanes.{Lane, LaneHolds, LinkHolds, told}
+use Rattle.mc_account.specs.Lanes.{Lane, LaneHolds, LinkHolds, replies_text}
 use Rattle.mc_account.specs.Orders.{Order, TakenRequest, commands_from, commands_to, note, note_in}
 use Rattle.mc_account.specs.Holds.{ProxyHolds, changed, grown}
 use Rattle.mc_account.proofs.HandingLemmas.{handed_at, received_up}
@@ -79,9 +79,9 @@ open_noted : (tag : Tag) (outcome : Outcome) (old new : ProxyState) (client : �
 open_noted tag outcome old new client is o =
     ⊎_elim
     (λ e. (
-      noted_in tag outcome o.0,
+      set_outcome_in_session tag outcome o.0,
       ap (λ (ss : Sessions). session_in ss client) is ∙ ap (λ (n : ℕ). session_in (noted tag outcome old.sessions) n) (sym e.1) ∙ noted_own tag outcome old.sessions
-          ∙ ap (λ (n : ℕ). option_map (noted_in tag outcome) (session_in old.sessions n)) e.1 ∙ ap (λ (s : Option SessionState). option_map (noted_in tag outcome) s) o.1,
+          ∙ ap (λ (n : ℕ). option_map (set_outcome_in_session tag outcome) (session_in old.sessions n)) e.1 ∙ ap (λ (s : Option SessionState). option_map (set_outcome_in_session tag outcome) s) o.1,
     ))
     (λ e. (o.0, ap (λ (ss : Sessions). session_in ss client) is ∙ noted_other tag outcome client old.sessions e.1 ∙ o.1))
     (eqb_tells tag.session client)
@@ -346,7 +346,7 @@ talks_pulled ring clients texts outs went came place piece now old below is h =
       since = holds.since;
       put = holds.put;
       came = ap (λ (bytes : List ℕ). bytes ++ piece) holds.came
-          ∙ append_assoc (told (commands_to place (drop (h.lanes place).since h.order)) (h.lanes place).replies) (link_at old.links place).unread piece;
+          ∙ append_assoc (replies_text (commands_to place (drop (h.lanes place).since h.order)) (h.lanes place).replies) (link_at old.links place).unread piece;
       can = holds.can;
       waiting = holds.waiting;
       outcomes = holds.outcomes;

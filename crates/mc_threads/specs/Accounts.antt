@@ -9,7 +9,7 @@ use Rattle.mc_route.specs.declared.losses.Losses.TheVariants.{Told}
 use Rattle.mc_route.specs.declared.outcomes.Outcome.{Outcome}
 use Rattle.mc_route.specs.declared.outcomes.Outcome.TheVariants.{Reply}
 use Rattle.mc_cache.specs.CacheState.{CacheState}
-use Rattle.mc_account.specs.Orders.{AreInOrder, IsSized, IsToldAs, Order, TakenRequest, answers_of, commands_to, entries_of, taken_of}
+use Rattle.mc_account.specs.Orders.{AreInOrder, HasChoice, IsSized, Order, TakenRequest, answers_of, commands_to, entries_of, taken_of}
 use Rattle.mc_history.specs.Histories.{IsLegal, tag_in}
 use Rattle.mc_history.specs.Named.{AreReplied, tags_of}
 use Rattle.mc_history.specs.declared.entries.Entry.{Entry}
@@ -46,7 +46,7 @@ pub record RunAccounts (ring : RingState) (opening : CacheState) (order : Order)
   pub asked : (client : ℕ) → taken_of client order ≡ requests_of (texts client)
   pub numbered : (client : ℕ) → AreInOrder (entries_of client order)
   pub rings : All (λ (e : TakenRequest). e.ring ≡ ring) order
-  pub chosen : All (IsToldAs Told) order
+  pub chosen : All (HasChoice Told) order
   pub sized : All IsSized order
   pub all_replied : All (λ (e : TakenRequest). list_all is_reply e.outcomes ≡ true) order
   -- each history is legal, and has the commands of the order to its server, each once and in that order

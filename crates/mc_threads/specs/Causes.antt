@@ -35,10 +35,10 @@ EndsRun servers lets refuses GateShut = (server : ℕ) × (server < servers) × 
 EndsRun servers lets refuses cause = Unit {0}
 
 -- the error that a run returns for a cause: a thread is stopped only if another one failed
-abbrev pub told_of : Ended → ThreadsError
-told_of GateShut = errors.GateShut
-told_of EndsDiffer = errors.EndsDiffer
-told_of StartFailed = errors.StartFailed
-told_of Strange = errors.Strange
-told_of Memory = errors.Memory
-told_of Stopped = errors.Memory
+abbrev pub error_of : Ended → ThreadsError
+error_of GateShut = errors.GateShut
+error_of EndsDiffer = errors.EndsDiffer
+error_of StartFailed = errors.StartFailed
+error_of Strange = errors.Strange
+error_of Memory = errors.Memory
+error_of Stopped = errors.Memory

@@ -4,7 +4,7 @@
 use anyhow::Context;
 use mc_codec::spelled_len;
 use mc_link::{Link, LinkTurn, Tag};
-use mc_request::Taken;
+use mc_request::Parsed;
 use mc_request_reader::{Peek, Reader};
 use mc_ring::{Address, Ring};
 use mc_route::{Outcome, Routed, join, route};
@@ -23,7 +23,7 @@ struct Lane {
     /// The commands of the request that was taken. Its memory is kept.
     routed: VecDeque<Routed>,
     /// The parts of the requests in flight that their answers need, the oldest first.
-    requests: Vec<Taken>,
+    requests: Vec<Parsed>,
     /// The answers to the client.
     answers: Vec<u8>,
 }
@@ -154,7 +154,7 @@ impl Lane {
 
     /// Answers a request of one command.
     fn answer(&mut self, tag: Tag, outcome: Outcome) -> Option<()> {
-        let Taken::Whole(request) = self.requests.get(tag.request as usize)? else {
+        let Parsed::Whole(request) = self.requests.get(tag.request as usize)? else {
             return None;
         };
         join(request, &[outcome], &mut self.answers).ok()

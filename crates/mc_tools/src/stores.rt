@@ -7,7 +7,7 @@ use mc_cache::{Cache, is_within_bounds};
 use mc_item::CasCounter;
 use mc_reply::Reply;
 use mc_request::{StoreMode, Update};
-use mc_store::{FixedHasher, ListStore, LruStore, Store, TableStore};
+use mc_store::{FixedHasher, Hint, ListStore, LruStore, Store, TableStore};
 use mc_text::Key;
 use std::alloc::Global;
 use std::time::Instant;
@@ -116,7 +116,7 @@ fn gets<S: Store + Drop>(cache: &mut Cache<S>, keys: &[Key], rounds: u64) -> u64
     let mut hits = 0u64;
     for _ in 0..rounds {
         for key in keys {
-            let reply = cache.get(key.as_bytes(), None, false, 0);
+            let reply = cache.get(key.as_bytes(), Hint::none(), None, false, 0);
             hits = hits.saturating_add(u64::from(matches!(reply, Reply::Hit { .. })));
         }
     }
@@ -144,5 +144,5 @@ fn is_set<S: Store + Drop>(cache: &mut Cache<S>, key: &Key) -> anyhow::Result<bo
         exptime: 0,
         block: VALUE.as_slice(),
     };
-    Ok(matches!(cache.update(&update, 0)?, Reply::Stored))
+    Ok(matches!(cache.update(&update, Hint::none(), 0)?, Reply::Stored))
 }

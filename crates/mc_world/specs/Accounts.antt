@@ -2,7 +2,7 @@
 use Rattle.std.specs.Prelude.{ℕ, ◌≡◌, ◌<◌, ◌≤◌, ◌⊎◌, true, false, List, [], ◌∷◌, ◌++◌, map, take, drop, Some, slice_get, All}
 use Rattle.std.specs.List.{list_all}
 use Rattle.mc_request.specs.declared.parts.Atom.{Atom}
-use Rattle.mc_request.specs.declared.parts.Taken.{Taken}
+use Rattle.mc_request.specs.declared.parts.Parsed.{Parsed}
 use Rattle.mc_request.specs.Requests.{requests_of}
 use Rattle.mc_reply.specs.declared.replies.Reply.{Reply as AReply}
 use Rattle.mc_reply.specs.Spelling.{spelling_of}
@@ -42,8 +42,14 @@ WasLost place tag log =
 
 -- what a log shows of a command that is lost: it was never sent, since its link was down when it was taken, or its link was lost before it
 -- was answered
-abbrev pub IsToldLost : ℕ → Tag → List Entry → Log → Type 0
-IsToldLost place tag history log = (down_when_taken place tag log × HasNone history tag) ⊎ (up_when_taken place tag log × WasLost place tag log)
+abbrev pub WasNeverSentOrLost : ℕ → Tag → List Entry → Log → Type 0
+WasNeverSentOrLost place tag history log = (down_when_taken place tag log × HasNone history tag) ⊎ (up_when_taken place tag log × WasLost place tag log)
+
+-- an entry of a history: its request was taken before its turn, and not answered before it, if a reply answered its command
+abbrev pub TakenBeforeAnswered : Order → Log → ℕ → ℕ → Entry → Type 0
+TakenBeforeAnswered order log place k e =
+    WasTaken (tag_in e) (before (serves place) k log)
+    × ((reply : AReply (List ℕ)) → outcome_at order (tag_in e) ≡ Some (Reply reply) → NotAnswered (tag_in e) (before (serves place) k log))
 
 -- the answers to requests that were taken, joined, by a choice for lost commands
 abbrev pub answers_by : Losses → Order → List ℕ
@@ -55,7 +61,7 @@ answers_by losses (e ∷ es) = answer_by losses e.what e.outcomes ++ answers_by 
 pub record Accounts (losses : Losses) (ring : RingState) (opening : CacheState) (order : Order) (texts outs : ℕ → List ℕ) (histories : ℕ → List Entry) (log : Log) : Type 0 where
   -- each client's requests were taken in order, by the turns of the log in theirs, and routed by the ring of that moment; each of their
   -- commands has its outcome
-  pub asked : (client : ℕ) → (untaken : List Taken) × (taken_of client order ++ untaken ≡ requests_of (texts client))
+  pub asked : (client : ℕ) → (untaken : List Parsed) × (taken_of client order ++ untaken ≡ requests_of (texts client))
   pub turns : map (λ (e : TakenRequest). e.session) order ≡ turns_of log
   pub numbered : (client : ℕ) → AreInOrder (entries_of client order)
   pub rings : (client request : ℕ) (e : TakenRequest) → asked_at order client request ≡ Some e → IsRingAfter ring (before (takes client) request log) e.ring
@@ -69,7 +75,7 @@ pub record Accounts (losses : Losses) (ring : RingState) (opening : CacheState) 
       → outcome_at order tag ≡ Some (Reply reply) → HasReply (histories place) tag (spelling_of atom reply)
   -- a lost command was never sent, or its link was lost before it was answered
   pub lost : (tag : Tag) (place : ℕ) (atom : Atom (List ℕ)) → command_at order tag ≡ Some (to_place place atom) → outcome_at order tag ≡ Some Lost
-      → IsToldLost place tag (histories place) log
+      → WasNeverSentOrLost place tag (histories place) log
   -- in a history the commands of one client that were answered are in its order
   pub ordered : (place j k : ℕ) (d e : Entry) (r q : AReply (List ℕ)) → slice_get (histories place) j ≡ Some d → slice_get (histories place) k ≡ Some e → j < k
       → d.client ≡ e.client → outcome_at order (tag_in d) ≡ Some (Reply r) → outcome_at order (tag_in e) ≡ Some (Reply q) → IsBefore (tag_in d) (tag_in e)
@@ -79,12 +85,9 @@ pub record Accounts (losses : Losses) (ring : RingState) (opening : CacheState) 
   pub answered : (client : ℕ) → list_all is_complete (take (number_of (puts client) log) (entries_of client order)) ≡ true
   pub put : (client : ℕ) → outs client ≡ answers_by losses (take (number_of (puts client) log) (entries_of client order))
   pub after : (client request : ℕ) → request < number_of (puts client) log → request < number_of (takes client) (before (puts client) request log)
-  -- a history has one entry for each turn of its server, at its moment; its request was taken before, and answered after if its command was
-  -- answered
+  -- a history has one entry for each turn of its server, at its moment
   pub moments : (place : ℕ) → map (λ (e : Entry). e.moment) (histories place) ≡ moments_of place log
-  pub placed : (place k : ℕ) (e : Entry) → slice_get (histories place) k ≡ Some e
-      → WasTaken (tag_in e) (before (serves place) k log)
-      × ((reply : AReply (List ℕ)) → outcome_at order (tag_in e) ≡ Some (Reply reply) → NotAnswered (tag_in e) (before (serves place) k log))
+  pub placed : (place k : ℕ) (e : Entry) → slice_get (histories place) k ≡ Some e → TakenBeforeAnswered order log place k e
 
 -- the account: such an order exists
 abbrev pub Account : Losses → RingState → CacheState → (ℕ → List ℕ) → (ℕ → List ℕ) → (ℕ → List Entry) → Log → Type 0
@@ -94,7 +97,7 @@ Account losses ring opening texts outs histories log = (order : Order) × Accoun
 -- The entries of each server since its life began are legal, and all its entries are of commands to it. No command has two entries in all
 -- histories.
 pub record AccountsForCommands (opening : CacheState) (order : Order) (texts : ℕ → List ℕ) (histories : ℕ → List Entry) (begun : ℕ → ℕ) : Type 0 where
-  pub asked : (client : ℕ) → (untaken : List Taken) × (taken_of client order ++ untaken ≡ requests_of (texts client))
+  pub asked : (client : ℕ) → (untaken : List Parsed) × (taken_of client order ++ untaken ≡ requests_of (texts client))
   pub sized : All IsSized order
   pub legal : (place : ℕ) → IsLegal order place opening (drop (begun place) (histories place))
   pub named : (place k : ℕ) (e : Entry) → slice_get (histories place) k ≡ Some e → (atom : Atom (List ℕ)) × (command_at order (tag_in e) ≡ Some (to_place place atom))

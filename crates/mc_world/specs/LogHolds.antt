@@ -13,16 +13,16 @@ use Rattle.mc_account.specs.Lookups.{IsBefore, IsRoutedWithin, asked_at, command
 use Rattle.mc_account.specs.Orders.{Order, TakenRequest}
 use Rattle.mc_history.specs.Histories.{tag_in}
 use Rattle.mc_history.specs.declared.entries.Entry.{Entry}
-use Rattle.mc_world.specs.Accounts.{IsToldLost, NotAnswered, WasTaken, up_when_taken}
+use Rattle.mc_world.specs.Accounts.{NotAnswered, WasNeverSentOrLost, WasTaken, up_when_taken}
 use Rattle.mc_world.specs.Logs.{IsRingAfter, Log, before, is_up, moments_of, number_of, puts, serves, takes, turns_of}
 use Rattle.mc_world.specs.WorldState.{PoolState, SiteState, StaleState, histories_of}
 
 -- the outcome of a command, as a log shows it: an awaited command was sent on a link that was up; for a lost one the log shows the
 -- cause
-abbrev pub IsTold : ℕ → Tag → List Entry → Log → Outcome → Type 0
-IsTold place tag history log Awaited = up_when_taken place tag log
-IsTold place tag history log (Reply reply) = Unit {0}
-IsTold place tag history log Lost = IsToldLost place tag history log
+abbrev pub HasOutcome : ℕ → Tag → List Entry → Log → Outcome → Type 0
+HasOutcome place tag history log Awaited = up_when_taken place tag log
+HasOutcome place tag history log (Reply reply) = Unit {0}
+HasOutcome place tag history log Lost = WasNeverSentOrLost place tag history log
 
 -- an entry of a history was made after its request was taken, and before that was answered, unless its command is lost
 pub record IsPlaced (order : Order) (earlier : Log) (e : Entry) : Type 0 where
@@ -74,7 +74,7 @@ pub record HistoriesHold (order : Order) (log : Log) (histories : ℕ → List E
 -- are lost.
 pub record CommandsHold (order : Order) (log : Log) (sites : List SiteState) : Type 0 where
   pub told : (tag : Tag) (place : ℕ) (atom : Atom (List ℕ)) (outcome : Outcome) → command_at order tag ≡ Some (to_place place atom) → outcome_at order tag ≡ Some outcome
-      → IsTold place tag (histories_of sites place) log outcome
+      → HasOutcome place tag (histories_of sites place) log outcome
   pub untaken : (place i j : ℕ) (site : SiteState) (way : StaleState) (tag : Tag) → slice_get sites place ≡ Some site → slice_get site.lost i ≡ Some way
       → slice_get way.untaken j ≡ Some tag → IsUntaken place order log tag
 

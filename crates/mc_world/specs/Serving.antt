@@ -1,8 +1,8 @@
 -- The premises of a pool's calls: its servers serve a proxy.
 use Rattle.std.specs.Prelude.{ℕ, ◌≡◌, ◌<◌, ◌≤◌, true, List, length, Some, slice_get}
 use Rattle.mc_request.specs.declared.parts.Atom.{Atom}
-use Rattle.mc_request.specs.declared.parts.Taken.{Taken}
-use Rattle.mc_request.specs.declared.parts.Taken.TheVariants.{Whole}
+use Rattle.mc_request.specs.declared.parts.Parsed.{Parsed}
+use Rattle.mc_request.specs.declared.parts.Parsed.TheVariants.{Whole}
 use Rattle.mc_request_reader.specs.Peeks.{IsFirst}
 use Rattle.mc_request_reader.specs.Reader.{ReaderState}
 use Rattle.mc_reply.specs.declared.replies.Reply.{Reply as AReply}
@@ -17,7 +17,7 @@ use Rattle.mc_proxy.specs.SessionState.{link_at}
 use Rattle.mc_world.specs.WorldState.{PoolState, SiteState, StaleState}
 
 -- a request is a command as a proxy encodes it
-abbrev pub IsSpelled : Taken → Type 0
+abbrev pub IsSpelled : Parsed → Type 0
 IsSpelled what = (atom : Atom (List ℕ)) × (what ≡ Whole (request_of atom)) × (is_good_atom atom ≡ true)
 
 -- a server serves a proxy on a connection: the connection is open, the next request on it is a command as a proxy encodes it, and the
@@ -25,7 +25,7 @@ IsSpelled what = (atom : Atom (List ℕ)) × (what ≡ Whole (request_of atom)) 
 pub record ServesProxy (number : ℕ) (server : ServerState) : Type 0 where
   pub end : ConnectionState
   pub is_open : connection_at server number ≡ Some end
-  pub spelled : (what : Taken) (after : ReaderState) → IsFirst end.reader what after → IsSpelled what
+  pub spelled : (what : Parsed) (after : ReaderState) → IsFirst end.reader what after → IsSpelled what
   pub good_cache : IsGoodCache server.cache
 
 -- A site, whose link this is, serves on each generation. If a whole request has arrived, its tag is known. The server's bytes are no

@@ -7,9 +7,9 @@ use Rattle.mc_cache.specs.CacheState.{CacheState}
 use Rattle.mc_cache_laws.specs.GoodCaches.{IsGoodCache}
 use Rattle.mc_server.specs.ServerState.{ConnectionState, ServerState, connection_at}
 use Rattle.mc_server.specs.Holds.{ServerHolds}
-use Rattle.mc_account.specs.Lanes.{Lane, spelled}
+use Rattle.mc_account.specs.Lanes.{Lane, sent_on, spelled}
 use Rattle.mc_account.specs.Orders.{Order, Tagged, commands_to}
-use Rattle.mc_history.specs.Generations.{commands_of_lane, is_good}
+use Rattle.mc_history.specs.Generations.{is_good}
 use Rattle.mc_history.specs.Made.{AreMade, Each, Made, commands_on, entry_of, taking_of}
 use Rattle.mc_history.specs.Named.{AreReplied, IsNamed, tags_made, tags_of, times}
 use Rattle.mc_world.specs.WorldState.{SiteState, StaleState}
@@ -28,7 +28,7 @@ pub record IsLiving (place : ℕ) (order : Order) (lane : Lane) (all made : List
   pub out : texts site.connection ≡ lane.out
   pub came : sent site.connection ≡ lane.came
   pub others : List Tagged
-  pub commands : commands_of_lane place order lane ≡ commands_on site.connection made ++ others
+  pub commands : sent_on place order lane ≡ commands_on site.connection made ++ others
   pub ahead : site.ahead + length lane.replies ≡ length (commands_on site.connection made)
   pub once : (tag : Tag) → times tag (tags_made all) + times tag (tags_of others) + untaken_times tag site.lost ≤ times tag (tags_of (commands_to place order))
 

@@ -1,6 +1,6 @@
 -- How much is left to do in a pool: a number that each event of a drain reduces. This project's own.
 use Rattle.std.specs.Prelude.{ℕ, ◌+◌, ◌-◌, ◌*◌, List, [], ◌∷◌, length, if◌then◌else◌}
-use Rattle.mc_request.specs.declared.parts.Taken.{Taken}
+use Rattle.mc_request.specs.declared.parts.Parsed.{Parsed}
 use Rattle.mc_request_reader.specs.Reader.{rest_of}
 use Rattle.mc_ring.specs.Rings.{RingState}
 use Rattle.mc_route.specs.Routes.{route_of_taken}
@@ -17,7 +17,7 @@ moves_of (b ∷ bs) = 1
 
 -- requests that were not taken: for each its turn, its answer and the move of that; and four things for each of its commands, which
 -- are its move to the server, its turn there, the move of the reply, and the reply's turn
-abbrev pub work_of_requests : RingState → List Taken → ℕ
+abbrev pub work_of_requests : RingState → List Parsed → ℕ
 work_of_requests ring [] = 0
 work_of_requests ring (what ∷ others) = 3 + 4 * length (route_of_taken ring what) + work_of_requests ring others
 

@@ -3,8 +3,8 @@ ghost use Rattle.std.specs.Prelude.{◌≡◌, ◌+◌, ◌-◌, ◌<◌, ◌^�
 
 use crate::errors::{Step, WorldError};
 use crate::sites::Site;
+use crate::stale_connections::{StaleConnection, tags_from};
 use crate::turning::serve;
-use crate::ways::{StaleConnection, tags_from};
 use mc_proxy::Proxy;
 use mc_server::ServerError;
 use mc_store::Store;

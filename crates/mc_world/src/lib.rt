@@ -37,8 +37,8 @@ mod openings;
 mod pools;
 mod restarts;
 mod sites;
+mod stale_connections;
 mod turning;
-mod ways;
 mod world_laws;
 mod worlds;
 
@@ -53,7 +53,7 @@ pub use mc_history::Entry;
 pub use mc_route::Losses;
 pub use pools::Pool;
 pub use sites::Site;
-pub use ways::StaleConnection;
+pub use stale_connections::StaleConnection;
 pub use world_laws::{
     courses_go_on, courses_serve, every_run_gives_account, every_world_gives_account,
     nothing_is_stuck, opening_pools_hold,

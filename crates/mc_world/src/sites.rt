@@ -2,8 +2,8 @@
 ghost use Rattle.std.specs.Prelude.{◌≡◌, ◌≤◌, ◌<◌, ◌+◌, ◌-◌, ◌^◌, ◌↔◌, length, IfOk, IsTrue, OnOk, OnErr};
 
 use crate::errors::{Step, WorldError};
+use crate::stale_connections::StaleConnection;
 use crate::turning::serve;
-use crate::ways::StaleConnection;
 use mc_history::Entry;
 use mc_link::Tag;
 use mc_server::Server;

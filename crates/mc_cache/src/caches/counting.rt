@@ -21,7 +21,7 @@ use itoa::Buffer;
 use mc_item::Deadline;
 use mc_reply::Reply;
 use mc_request::{Counting, Direction, Fault};
-use mc_store::Store;
+use mc_store::{Hint, Store};
 use mc_text::{Block, read_u64};
 
 impl<S: Store + Drop> Cache<S> {
@@ -29,7 +29,7 @@ impl<S: Store + Drop> Cache<S> {
     pub(super) fn count(
         &mut self,
         key: &[u8],
-        guess: u32,
+        hint: Hint,
         counting: &Counting,
         moment: u64,
     ) -> Reply<()>
@@ -41,7 +41,7 @@ impl<S: Store + Drop> Cache<S> {
         ensures refusal { is_refusal result ≡ true
             → may_refuse self.old (AnUpdate (Count key.now counting.now)) moment ≡ true }
     {
-        match self.settle(key, guess, moment) {
+        match self.settle(key, hint, moment) {
             Some(found) => self.count_held(key, counting, found, moment),
             None => self.count_none(key, counting, moment),
         }
@@ -64,10 +64,10 @@ impl<S: Store + Drop> Cache<S> {
             → count_may_refuse counting.now (body_at key.now self.old.items) ≡ true }
     {
         if let Some(reply) = compared(counting.compare, Some(found)) {
-            let _ = self.bring_by(key, found.guess);
+            let _ = self.bring(key, found.hint);
             return reply;
         }
-        let before = self.held(key, found.guess);
+        let before = self.held(key, found.hint);
         let room = before.len();
         let Some(number) = read_u64(before) else {
             return Reply::Fault(Fault::NonNumeric);
@@ -127,7 +127,7 @@ impl<S: Store + Drop> Cache<S> {
         }
         match Block::from_slice(self.alloc, text) {
             Ok(value) => {
-                self.put_held(key, found.guess, found.with(value, cas));
+                self.put_held(key, found.hint, found.with(value, cas));
                 Ok(())
             }
             Err(_) => Err(Fault::OutOfMemory),

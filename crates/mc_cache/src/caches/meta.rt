@@ -11,7 +11,7 @@ ghost use Rattle.mc_cache.specs.Showing.{is_low, marks_by, item_shown};
 ghost use Rattle.mc_cache.specs.Step.{step_of, touched, meta_get_none, meta_get_step};
 ghost use Rattle.mc_cache.specs.Memory.{may_refuse};
 ghost use Rattle.mc_cache.specs.Refusals.{is_refusal};
-ghost use Rattle.mc_cache.specs.Admissions.{IsTold, found_body, body_of};
+ghost use Rattle.mc_cache.specs.Admissions.{IsMetaReply, found_body, body_of};
 
 use super::Cache;
 use super::settling::ItemMeta;
@@ -19,11 +19,11 @@ use super::storing::NewItem;
 use mc_item::Deadline;
 use mc_reply::{Marks, Reply, Shown};
 use mc_request::{MetaGet, Show};
-use mc_store::Store;
+use mc_store::{Hint, Store};
 
 impl<S: Store + Drop> Cache<S> {
-    /// Executes `mg`, given a guess of the key's item.
-    pub(super) fn show(&mut self, key: &[u8], guess: u32, get: &MetaGet, moment: u64) -> Reply<()>
+    /// Executes `mg`.
+    pub(super) fn show(&mut self, key: &[u8], hint: Hint, get: &MetaGet, moment: u64) -> Reply<()>
         requires moment { moment < 2 ^ 63 }
         requires key { is_key key.now ≡ true }
         ensures step { step_of self.old (AMeta (AGet key.now get.now)) moment (is_refusal result)
@@ -33,7 +33,7 @@ impl<S: Store + Drop> Cache<S> {
             → may_refuse self.old (AMeta (AGet key.now get.now)) moment ≡ true }
         ensures distinct { (key : List ℕ) → body_at key (without key self.old.items) ≡ None }
     {
-        match self.settle_in_front(key, guess, moment) {
+        match self.settle_in_front(key, hint, moment) {
             Some(found) => {
                 self.store.retrieved(true);
                 self.show_found(key, get, found, moment)
@@ -71,7 +71,7 @@ impl<S: Store + Drop> Cache<S> {
               (Some (record (body_of found (front_value self.old.items)) { won = true })) self.old.items;
         } }
     {
-        let _ = self.mark(key, found.guess, found.stale, true, found.cas);
+        let _ = self.mark(key, found.hint, found.stale, true, found.cas);
     }
 
     /// Executes `mg` on a settled cache in which the key is not stored: an item is made, or not.
@@ -101,7 +101,7 @@ impl<S: Store + Drop> Cache<S> {
 
     /// Turns the reply to an update into the reply to a meta command. What was stored is first.
     pub(super) fn tell(&self, reply: Reply<()>, show: &Show, moment: u64) -> Reply<()>
-        ensures told { IsTold show.now moment self.now reply result }
+        ensures told { IsMetaReply show.now moment self.now reply result }
         ensures refusal { is_refusal result ≡ is_refusal reply }
     {
         match reply {

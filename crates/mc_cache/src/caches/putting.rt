@@ -18,16 +18,16 @@ use super::storing::NewItem;
 use mc_item::{Body, CasCounter, Deadline, cost_at};
 use mc_reply::Reply;
 use mc_request::Fault;
-use mc_store::{Store, keep};
+use mc_store::{Hint, Store, keep};
 use mc_text::{Block, Key, VALUE_LIMIT};
 use std::alloc::AllocError;
 
 impl<S: Store + Drop> Cache<S> {
-    /// Stores an owned body, under a new number, given a guess of the key's item. If the key is stored it takes no memory.
+    /// Stores an owned body, under a new number. If the key is stored it takes no memory.
     pub(super) fn put_own(
         &mut self,
         key: Key,
-        guess: u32,
+        hint: Hint,
         mut body: Body,
         is_held: bool,
     ) -> Result<(), Fault>
@@ -39,19 +39,19 @@ impl<S: Store + Drop> Cache<S> {
         let cas = self.admit(key.as_bytes(), body.value.len())?;
         number_anew(&mut body, cas);
         if is_held {
-            self.put_held(key.as_bytes(), guess, body);
+            self.put_held(key.as_bytes(), hint, body);
             return Ok(());
         }
         self.put_new(key, body)
     }
 
-    /// Stores a borrowed item, under a new number, given a guess of the key's item.
+    /// Stores a borrowed item, under a new number.
     ///
     /// It returns `Err` if the key is stored and there is no memory for the block: nothing has changed.
     pub(super) fn put_lent(
         &mut self,
         key: &[u8],
-        guess: u32,
+        hint: Hint,
         lent: NewItem<'_>,
         is_held: bool,
     ) -> Result<Reply<()>, AllocError>
@@ -70,7 +70,7 @@ impl<S: Store + Drop> Cache<S> {
         match self.admit(key, lent.block.len()) {
             Ok(cas) => {
                 let value = Block::from_slice(self.alloc, lent.block)?;
-                self.put_held(key, guess, lent.with(value, cas));
+                self.put_held(key, hint, lent.with(value, cas));
                 Ok(Reply::Stored)
             }
             Err(fault) => Ok(Reply::Fault(fault)),
@@ -92,13 +92,13 @@ impl<S: Store + Drop> Cache<S> {
         }
     }
 
-    /// Stores a borrowed item, whether its key is stored or not, given a guess of the key's item, and looks the key up only once.
+    /// Stores a borrowed item, whether its key is stored or not, and looks the key up only once.
     ///
     /// It returns `None` if the item is not admitted, or if there is no memory for its block: nothing has changed.
     pub(super) fn set_at_once(
         &mut self,
         key: &[u8],
-        guess: u32,
+        hint: Hint,
         lent: NewItem<'_>,
         moment: u64,
     ) -> Option<Reply<()>>
@@ -117,7 +117,7 @@ impl<S: Store + Drop> Cache<S> {
             return None;
         };
         self.flush_due(moment);
-        match self.put_if_held(key, guess, lent.with(value, cas)) {
+        match self.put_if_held(key, hint, lent.with(value, cas)) {
             None => Some(Reply::Stored),
             Some(body) => Some(stored_or_fault(self.put_copied(key, body))),
         }
@@ -159,17 +159,17 @@ impl<S: Store + Drop> Cache<S> {
         Ok(())
     }
 
-    /// Stores an admitted body under a stored key, given a guess of its item. It takes no memory.
-    pub(super) fn put_held(&mut self, key: &[u8], guess: u32, body: Body)
+    /// Stores an admitted body under a stored key. It takes no memory.
+    pub(super) fn put_held(&mut self, key: &[u8], hint: Hint, body: Body)
         requires held { is_some (body_at key.now self.old.items) ≡ true }
         requires admitted { admission self.old key.now (length body.value) ≡ Ok body.cas }
         ensures { self.new ≡ with_item self.old key.now body }
     {
-        let _ = self.put_if_held(key, guess, body);
+        let _ = self.put_if_held(key, hint, body);
     }
 
-    /// Stores an admitted body, if its key is stored, given a guess of its item, and returns it if not. It takes no memory.
-    fn put_if_held(&mut self, key: &[u8], guess: u32, body: Body) -> Option<Body>
+    /// Stores an admitted body, if its key is stored, and returns it if not. It takes no memory.
+    fn put_if_held(&mut self, key: &[u8], hint: Hint, body: Body) -> Option<Body>
         requires { admission self.old key.now (length body.value) ≡ Ok body.cas }
         ensures held { IfNone result (self.new ≡ with_item self.old key.now body) }
         ensures absent { OnSome result (body_at key.now self.old.items ≡ None) }
@@ -177,7 +177,7 @@ impl<S: Store + Drop> Cache<S> {
         ensures unchanged { OnSome result (self.new ≡ self.old) }
     {
         let cas = body.cas;
-        match self.store.replace_by(key, guess, body) {
+        match self.store.replace(key, hint, body) {
             Ok(_) => {
                 self.counter = CasCounter::starting_at(cas);
                 keep(&mut self.store, self.budget, self.limit);
@@ -194,9 +194,9 @@ impl<S: Store + Drop> Cache<S> {
         ensures { self.new
             ≡ with_item self.old key.now (numbered (renewed found (value_at key.now self.old.items)) cas) }
     {
-        let mut body = self.lift(key, found.guess);
+        let mut body = self.lift(key, found.hint);
         number_anew(&mut body, cas);
-        self.put_held(key, found.guess, body);
+        self.put_held(key, found.hint, body);
     }
 
     /// Overwrites the stored value by a text that is no longer, with the flags and the expiry of `found`. It takes no memory.
@@ -206,21 +206,21 @@ impl<S: Store + Drop> Cache<S> {
         requires admitted { admission self.old key.now (length text.now) ≡ Ok cas }
         ensures { self.new ≡ with_item self.old key.now (numbered (renewed found text.now) cas) }
     {
-        let mut value = self.lift(key, found.guess).value;
+        let mut value = self.lift(key, found.hint).value;
         value.overwrite(text);
-        self.put_held(key, found.guess, found.with(value, cas));
+        self.put_held(key, found.hint, found.with(value, cas));
     }
 
-    /// Returns the value under a stored key, given a guess of its item.
-    pub(super) fn held(&self, key: &[u8], guess: u32) -> &[u8]
+    /// Returns the value under a stored key.
+    pub(super) fn held(&self, key: &[u8], hint: Hint) -> &[u8]
         requires { is_some (body_at key.now self.now.items) ≡ true }
         ensures { result.now ≡ value_at key.now self.now.items }
     {
-        self.store.find(key, guess).unwrap().1.value.as_slice()
+        self.store.find(key, hint).unwrap().1.value.as_slice()
     }
 
-    /// Moves the body out from under a stored key, given a guess of its item. The key stays stored, with no bytes.
-    fn lift(&mut self, key: &[u8], guess: u32) -> Body
+    /// Moves the body out from under a stored key. The key stays stored, with no bytes.
+    fn lift(&mut self, key: &[u8], hint: Hint) -> Body
         requires { is_some (body_at key.now self.old.items) ≡ true }
         ensures body { body_at key.now self.old.items ≡ Some result }
         ensures lifted { self.new ≡ lifted self.old key.now }
@@ -233,7 +233,7 @@ impl<S: Store + Drop> Cache<S> {
             won: false,
             value: Block::new(self.alloc),
         };
-        self.store.replace_by(key, guess, bare).unwrap()
+        self.store.replace(key, hint, bare).unwrap()
     }
 
     /// Returns the number of an item whose value has this many bytes, or why it is not stored under a key.

@@ -12,11 +12,11 @@ ghost use Rattle.mc_cache.specs.Admissions.{found_body, body_of};
 
 use super::Cache;
 use super::settling::ItemMeta;
-use super::storing::{compared, guess_of};
+use super::storing::{compared, hint_of};
 use mc_item::Deadline;
 use mc_reply::Reply;
 use mc_request::Fault;
-use mc_store::Store;
+use mc_store::{Hint, Store};
 
 impl<S: Store + Drop> Cache<S> {
     /// Sets the expiry of the first item, whose key this is, if an exptime is given.
@@ -29,21 +29,21 @@ impl<S: Store + Drop> Cache<S> {
         } }
     {
         if let Some(exptime) = exptime {
-            let guess = self.store.first_guess();
-            let _ = self.expire(key, guess, Deadline::of(exptime, moment));
+            let hint = self.store.first_hint();
+            let _ = self.expire(key, hint, Deadline::of(exptime, moment));
         }
     }
 
     /// Executes `touch`.
-    pub(super) fn touch(&mut self, key: &[u8], guess: u32, exptime: i64, moment: u64) -> Reply<()>
+    pub(super) fn touch(&mut self, key: &[u8], hint: Hint, exptime: i64, moment: u64) -> Reply<()>
         requires { moment < 2 ^ 63 }
         ensures step { (value : List ℕ)
             → step_of self.old (AnUpdate (Touch key.now exptime)) moment (is_refusal result)
             ≡ (self.new, filled result value) }
         ensures refusal { is_refusal result ≡ false }
     {
-        let found = self.settle(key, guess, moment);
-        if self.expire(key, guess_of(found), Deadline::of(exptime, moment)) {
+        let found = self.settle(key, hint, moment);
+        if self.expire(key, hint_of(found), Deadline::of(exptime, moment)) {
             Reply::Touched
         } else {
             Reply::NotFound
@@ -54,7 +54,7 @@ impl<S: Store + Drop> Cache<S> {
     pub(super) fn delete(
         &mut self,
         key: &[u8],
-        guess: u32,
+        hint: Hint,
         compare: Option<u64>,
         invalidate: bool,
         moment: u64,
@@ -64,17 +64,17 @@ impl<S: Store + Drop> Cache<S> {
             ≡ (self.new, filled result value) }
         ensures refusal { is_refusal result ≡ false }
     {
-        let Some(found) = self.settle(key, guess, moment) else {
+        let Some(found) = self.settle(key, hint, moment) else {
             return Reply::NotFound;
         };
         if let Some(reply) = compared(compare, Some(found)) {
-            let _ = self.bring_by(key, found.guess);
+            let _ = self.bring(key, found.hint);
             return reply;
         }
         if invalidate {
             return self.invalidate(key, found);
         }
-        let _ = self.take(key, found.guess);
+        let _ = self.take(key, found.hint);
         Reply::Deleted
     }
 
@@ -89,43 +89,43 @@ impl<S: Store + Drop> Cache<S> {
         let Some(cas) = counter.next() else {
             return Reply::Fault(Fault::CasUsedUp);
         };
-        let _ = self.mark(key, found.guess, true, false, cas);
+        let _ = self.mark(key, found.hint, true, false, cas);
         self.counter = counter;
         Reply::Deleted
     }
 
-    /// Removes the key's item, given a guess of it, and returns whether it existed.
-    pub(super) fn take(&mut self, key: &[u8], guess: u32) -> bool
+    /// Removes the key's item, and returns whether it existed.
+    pub(super) fn take(&mut self, key: &[u8], hint: Hint) -> bool
         ensures held { result ≡ is_some (body_at key.now self.old.items) }
         ensures items { self.new ≡ record self.old { items = without key.now self.old.items } }
         ensures absent { body_at key.now self.new.items ≡ None }
     {
-        self.store.take_by(key, guess).is_some()
+        self.store.take(key, hint).is_some()
     }
 
-    /// Moves the key's item to the front, given a guess of it.
-    pub(super) fn bring_by(&mut self, key: &[u8], guess: u32) -> bool
+    /// Moves the key's item to the front.
+    pub(super) fn bring(&mut self, key: &[u8], hint: Hint) -> bool
         ensures held { result ≡ is_some (body_at key.now self.old.items) }
         ensures items { self.new ≡ fronted self.old key.now }
     {
-        self.store.bring_by(key, guess)
+        self.store.bring(key, hint)
     }
 
-    /// Sets the expiry of the key's item, given a guess of it, moves it to the front, and returns whether it exists.
-    pub(super) fn expire(&mut self, key: &[u8], guess: u32, expiry: Deadline) -> bool
+    /// Sets the expiry of the key's item, moves it to the front, and returns whether it exists.
+    pub(super) fn expire(&mut self, key: &[u8], hint: Hint, expiry: Deadline) -> bool
         ensures held { result ≡ is_some (body_at key.now self.old.items) }
         ensures items { self.new
             ≡ record self.old { items = brought key.now (expiring expiry (body_at key.now self.old.items)) self.old.items } }
     {
-        self.store.expire_by(key, guess, expiry)
+        self.store.expire(key, hint, expiry)
     }
 
-    /// Sets the marks and the number of the key's item, given a guess of it, moves it to the front, and returns whether it exists.
-    pub(super) fn mark(&mut self, key: &[u8], guess: u32, stale: bool, won: bool, cas: u64) -> bool
+    /// Sets the marks and the number of the key's item, moves it to the front, and returns whether it exists.
+    pub(super) fn mark(&mut self, key: &[u8], hint: Hint, stale: bool, won: bool, cas: u64) -> bool
         ensures held { result ≡ is_some (body_at key.now self.old.items) }
         ensures items { self.new
             ≡ record self.old { items = brought key.now (marking stale won cas (body_at key.now self.old.items)) self.old.items } }
     {
-        self.store.mark_by(key, guess, stale, won, cas)
+        self.store.mark(key, hint, stale, won, cas)
     }
 }

@@ -13,7 +13,7 @@ ghost use Rattle.mc_cache.specs.Admissions.{found_body, renewed};
 use super::Cache;
 use mc_item::{Body, Deadline};
 use mc_reply::Reply;
-use mc_store::Store;
+use mc_store::{Hint, Store};
 use mc_text::Block;
 
 /// What a look-up found: a stored item, all but its value.
@@ -29,15 +29,15 @@ pub struct ItemMeta {
     pub stale: bool,
     /// Whether a client was told to fetch the value anew.
     pub won: bool,
-    /// A guess of the item, for the store's calls that take one.
-    pub guess: u32,
+    /// A hint of the item's slot.
+    pub hint: Hint,
 }
 
 impl ItemMeta {
     ghost use Rattle.mc_cache.specs.Step.{numbered, expiry_by};
 
-    /// Returns all of a body but its value, with a guess of its item.
-    fn of(body: &Body, guess: u32) -> ItemMeta
+    /// Returns all of a body but its value, with a hint of its item's slot.
+    fn of(body: &Body, hint: Hint) -> ItemMeta
         ensures { found_body (Some result) body.now.value ≡ Some body.now }
     {
         ItemMeta {
@@ -46,7 +46,7 @@ impl ItemMeta {
             cas: body.cas,
             stale: body.stale,
             won: body.won,
-            guess,
+            hint,
         }
     }
 
@@ -80,17 +80,17 @@ impl ItemMeta {
 }
 
 impl<S: Store + Drop> Cache<S> {
-    /// Brings the cache to a moment for a command on a key, given a guess of its item, and looks the key up. If it is stored, that
+    /// Brings the cache to a moment for a command on a key, and looks the key up. If it is stored, that
     /// moment has changed nothing.
-    pub(super) fn settle(&mut self, key: &[u8], guess: u32, moment: u64) -> Option<ItemMeta>
+    pub(super) fn settle(&mut self, key: &[u8], hint: Hint, moment: u64) -> Option<ItemMeta>
         ensures settled { self.new ≡ settled self.old (Some key.now) moment }
         ensures found { body_at key.now self.new.items ≡ found_body result (value_at key.now self.new.items) }
         ensures held { OnSome result (self.new ≡ self.old) }
     {
         self.flush_due(moment);
-        let found = self.look(key, guess)?;
+        let found = self.look(key, hint)?;
         if found.expiry.is_dead(moment) {
-            let _ = self.take(key, found.guess);
+            let _ = self.take(key, found.hint);
             return None;
         }
         Some(found)
@@ -130,24 +130,24 @@ impl<S: Store + Drop> Cache<S> {
         }
     }
 
-    /// Moves the key's item to the front, given a guess of it, and returns what it found.
-    pub(super) fn find(&mut self, key: &[u8], guess: u32) -> Option<ItemMeta>
+    /// Moves the key's item to the front, and returns what it found.
+    pub(super) fn find(&mut self, key: &[u8], hint: Hint) -> Option<ItemMeta>
         ensures found { body_at key.now self.old.items ≡ found_body result (front_value self.new.items) }
         ensures items { self.new ≡ fronted self.old key.now }
     {
-        if !self.bring_by(key, guess) {
+        if !self.bring(key, hint) {
             return None;
         }
-        let guess = self.store.first_guess();
+        let hint = self.store.first_hint();
         let body = self.store.front()?;
-        Some(ItemMeta::of(body, guess))
+        Some(ItemMeta::of(body, hint))
     }
 
-    /// Brings the cache to a moment for a command on a key, moves the key's item to the front, given a guess of it, and returns what it found.
+    /// Brings the cache to a moment for a command on a key, moves the key's item to the front, and returns what it found.
     pub(super) fn settle_in_front(
         &mut self,
         key: &[u8],
-        guess: u32,
+        hint: Hint,
         moment: u64,
     ) -> Option<ItemMeta>
         ensures settled { self.new ≡ fronted (settled self.old (Some key.now) moment) key.now }
@@ -156,9 +156,9 @@ impl<S: Store + Drop> Cache<S> {
         ensures distinct { (key : List ℕ) → body_at key (without key self.old.items) ≡ None }
     {
         self.flush_due(moment);
-        let found = self.find(key, guess)?;
+        let found = self.find(key, hint)?;
         if found.expiry.is_dead(moment) {
-            let _ = self.take(key, found.guess);
+            let _ = self.take(key, found.hint);
             return None;
         }
         Some(found)
@@ -171,10 +171,10 @@ impl<S: Store + Drop> Cache<S> {
         self.pending = None;
     }
 
-    fn look(&self, key: &[u8], guess: u32) -> Option<ItemMeta>
+    fn look(&self, key: &[u8], hint: Hint) -> Option<ItemMeta>
         ensures { body_at key.now self.now.items ≡ found_body result (value_at key.now self.now.items) }
     {
-        let (guess, body) = self.store.find(key, guess)?;
-        Some(ItemMeta::of(body, guess))
+        let (hint, body) = self.store.find(key, hint)?;
+        Some(ItemMeta::of(body, hint))
     }
 }

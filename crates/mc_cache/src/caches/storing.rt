@@ -21,7 +21,7 @@ use super::settling::ItemMeta;
 use mc_item::{Body, Deadline};
 use mc_reply::Reply;
 use mc_request::{Fault, StoreMode};
-use mc_store::Store;
+use mc_store::{Hint, Store};
 use mc_text::{Block, Key};
 use std::alloc::{AllocError, Global};
 
@@ -96,7 +96,7 @@ impl<S: Store + Drop> Cache<S> {
         let block = body.value.as_slice();
         match self.store_but_whole(mode, compare, key.as_bytes(), block, found) {
             Some(reply) => reply,
-            None => stored_or_fault(self.put_own(key, guess_of(found), body, found.is_some())),
+            None => stored_or_fault(self.put_own(key, hint_of(found), body, found.is_some())),
         }
     }
 
@@ -109,7 +109,7 @@ impl<S: Store + Drop> Cache<S> {
         ensures refusal { is_refusal result ≡ true
             → store_may_refuse None Set (body_at key self.old.items) body.value ≡ true }
     {
-        stored_or_fault(self.put_own(key, guess_of(found), body, found.is_some()))
+        stored_or_fault(self.put_own(key, hint_of(found), body, found.is_some()))
     }
 
     /// Executes a storage command with the key and the block borrowed.
@@ -121,7 +121,7 @@ impl<S: Store + Drop> Cache<S> {
         mode: StoreMode,
         compare: Option<u64>,
         key: &[u8],
-        guess: u32,
+        hint: Hint,
         lent: NewItem<'_>,
         moment: u64,
     ) -> Result<Reply<()>, AllocError>
@@ -138,14 +138,14 @@ impl<S: Store + Drop> Cache<S> {
             OnErr result (store_takes_block s compare mode key.now (body_at key.now s.items) (lent_content lent.entry).value ≡ true) }
     {
         if let (StoreMode::Set, None) = (mode, compare) {
-            if let Some(reply) = self.set_at_once(key, guess, lent, moment) {
+            if let Some(reply) = self.set_at_once(key, hint, lent, moment) {
                 return Ok(reply);
             }
         }
-        let found = self.settle(key, guess, moment);
+        let found = self.settle(key, hint, moment);
         match self.store_but_whole(mode, compare, key, lent.block, found) {
             Some(reply) => Ok(reply),
-            None => self.put_lent(key, guess_of(found), lent, found.is_some()),
+            None => self.put_lent(key, hint_of(found), lent, found.is_some()),
         }
     }
 
@@ -170,7 +170,7 @@ impl<S: Store + Drop> Cache<S> {
         ensures whole { IfNone result (IsWhole compare mode (body_at key.now self.old.items)) }
     {
         if let Some(reply) = unstored(compare, mode, found) {
-            let _ = self.bring_by(key, guess_of(found));
+            let _ = self.bring(key, hint_of(found));
             return Some(reply);
         }
         let found = found?;
@@ -190,7 +190,7 @@ impl<S: Store + Drop> Cache<S> {
             ≡ (self.new, reply_or_fault result reply) }
         ensures refusal { is_refused result ≡ true → 0 < length block.now }
     {
-        let before = self.held(key, found.guess);
+        let before = self.held(key, found.hint);
         let cas = self.admit(key, before.len() + block.len())?;
         if block.is_empty() {
             self.renew(key, found, cas);
@@ -198,7 +198,7 @@ impl<S: Store + Drop> Cache<S> {
         }
         match side.join(self.alloc, before, block) {
             Ok(value) => {
-                self.put_held(key, found.guess, found.with(value, cas));
+                self.put_held(key, found.hint, found.with(value, cas));
                 Ok(())
             }
             Err(_) => Err(Fault::OutOfMemory),
@@ -221,11 +221,11 @@ pub(super) fn own_body(flags: u32, exptime: i64, block: Block, moment: u64) -> B
     }
 }
 
-/// Returns the guess of the item that was found; 0 if none was.
-pub(super) fn guess_of(found: Option<ItemMeta>) -> u32 {
+/// Returns the hint of the item that was found; [`Hint::none`] if none was.
+pub(super) fn hint_of(found: Option<ItemMeta>) -> Hint {
     match found {
-        Some(found) => found.guess,
-        None => 0,
+        Some(found) => found.hint,
+        None => Hint::none(),
     }
 }
 

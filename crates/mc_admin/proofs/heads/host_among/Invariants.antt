@@ -1,7 +1,7 @@
 use Rattle.std.proofs.Common.{map, take, codes}
 use Rattle.httparse.specs.Spans.{header_bytes}
 use Rattle.http1.specs.Fields.{values_named}
-use Rattle.mc_admin.specs.Asked.{IsFound}
+use Rattle.mc_admin.specs.AdminRequests.{IsFound}
 use Rattle.mc_admin.proofs.heads.host_among.Given as goal
 
 abbrev pub invariant-loop-field : goal.invariant-loop-field

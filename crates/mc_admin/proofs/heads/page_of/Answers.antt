@@ -3,7 +3,7 @@ use Rattle.httparse.specs.declared.spans.HeaderSpan.{HeaderSpan}
 use Rattle.httparse.specs.declared.Status.TheVariants.{Complete}
 use Rattle.httparse.specs.Spans.{IsRequestOf, FindsRequest, header_bytes, span_bytes}
 use Rattle.http1.specs.Fields.{values_named}
-use Rattle.mc_admin.specs.Asked.{asked_by}
+use Rattle.mc_admin.specs.AdminRequests.{asked_by}
 use Rattle.mc_admin.specs.declared.heads.TheConstants.{FIELD_LIMIT}
 use Rattle.mc_admin.proofs.HeadLemmas.{page_is_read}
 use Rattle.mc_admin.proofs.heads.page_of.Goals as goal

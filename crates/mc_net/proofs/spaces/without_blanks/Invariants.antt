@@ -1,5 +1,5 @@
 use Rattle.std.proofs.Common.{◌≤◌, length}
-use Rattle.mc_net.specs.Places.{SaysTheSame}
+use Rattle.mc_net.specs.WordStarts.{SaysTheSame}
 use Rattle.mc_net.proofs.spaces.without_blanks.Given as goal
 
 abbrev pub invariant-loop-more : goal.invariant-loop-more

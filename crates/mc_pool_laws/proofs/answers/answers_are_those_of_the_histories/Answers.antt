@@ -1,4 +1,4 @@
-use Rattle.mc_pool_laws.proofs.ToldLemmas.{put_answers}
+use Rattle.mc_pool_laws.proofs.OutcomeLemmas.{put_answers}
 use Rattle.mc_pool_laws.proofs.answers.answers_are_those_of_the_histories.Goals as goal
 
 pub returns : goal.returns

@@ -1,7 +1,7 @@
 use Rattle.std.proofs.Common.{◌∙◌, ℕ, List, length, sym, ap}
 use Rattle.std.proofs.lemmas.List.{length-map}
 use Rattle.mc_history.specs.declared.entries.Entry.{Entry}
-use Rattle.mc_world.proofs.LogLemmas.{moments-count}
+use Rattle.mc_world.proofs.Log.LogLemmas.{moments-count}
 use Rattle.mc_pool_laws.proofs.histories.histories_have_their_turns.Goals as goal
 
 pub returns-clause-count : goal.returns-clause-count

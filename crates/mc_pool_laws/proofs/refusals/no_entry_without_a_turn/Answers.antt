@@ -1,8 +1,8 @@
 use Rattle.std.proofs.Common.{◌∙◌, length, ap, arith}
 use Rattle.std.proofs.lemmas.List.{length-map}
 use Rattle.mc_history.specs.declared.entries.Entry.{Entry}
-use Rattle.mc_world.proofs.LogEntryLemmas.{got_inside}
-use Rattle.mc_world.proofs.LogLemmas.{moments-count}
+use Rattle.mc_world.proofs.Log.EntryLemmas.{got_inside}
+use Rattle.mc_world.proofs.Log.LogLemmas.{moments-count}
 use Rattle.mc_pool_laws.proofs.refusals.no_entry_without_a_turn.Goals as goal
 
 pub returns : goal.returns

@@ -1,7 +1,7 @@
 use Rattle.std.proofs.Common.{◌≡◌, ◌∙◌, ℕ, List, ◌++◌, ap}
 use Rattle.mc_script.specs.Escapes.{client_lines}
 use Rattle.mc_pool_script.specs.Plays.{outs_of}
-use Rattle.mc_pool_script.specs.Told.{account_lines}
+use Rattle.mc_pool_script.specs.Printed.{account_lines}
 use Rattle.mc_pool_script.proofs.texts.account_of_pool_script.Goals as goal
 
 pub returns-clause-text : goal.returns-clause-text

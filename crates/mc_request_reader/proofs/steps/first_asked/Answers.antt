@@ -3,7 +3,7 @@ use Rattle.mc_request.specs.LinesSeen.{meaning_of}
 use Rattle.std.specs.Prelude.{None}
 use Rattle.mc_request.specs.Meanings.{Alone}
 use Rattle.mc_request.specs.declared.parts.Request.TheVariants.{Get}
-use Rattle.mc_request.specs.declared.parts.Taken.TheVariants.{Whole}
+use Rattle.mc_request.specs.declared.parts.Parsed.TheVariants.{Whole}
 use Rattle.mc_request_reader.proofs.StepLemmas.{starts_by, starts_now, partial_none, too_long_fault}
 use Rattle.mc_request_reader.proofs.steps.first_asked.Goals as goal
 

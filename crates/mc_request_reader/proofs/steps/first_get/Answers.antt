@@ -2,7 +2,7 @@ use Rattle.std.proofs.Common.{sym}
 use Rattle.std.specs.Prelude.{None}
 use Rattle.mc_request.specs.Meanings.{Alone}
 use Rattle.mc_request.specs.declared.parts.Request.TheVariants.{Get}
-use Rattle.mc_request.specs.declared.parts.Taken.TheVariants.{Whole}
+use Rattle.mc_request.specs.declared.parts.Parsed.TheVariants.{Whole}
 use Rattle.mc_request_reader.proofs.StepLemmas.{starts_by, starts_now}
 use Rattle.mc_request_reader.proofs.steps.first_get.Goals as goal
 

@@ -18,10 +18,10 @@ returns-in-Update-clause-fits g c =
     let good = rw c.in-Update.is at c.requires.good in
     let update = update_said c.args.coded c.in-Update.update in
     let s = c.args.cache.now in
-    let t = c.meta_update_by.new.self in
+    let t = c.meta_update.new.self in
     let show = c.in-Update.show in
-    rw c.in-Update.is (if_ok_then c.meta_update_by.result
+    rw c.in-Update.is (if_ok_then c.meta_update.result
     (λ reply. step_of s (atoms.Meta (metas.Update (update_seen c.said.result) show)) c.args.moment (is_refusal reply) ≡ (t, filled reply (front_value t.items)))
     (λ reply. value_len (filled reply (front_value t.items)) ≤ (if show.value then update_value_room update else 0))
     (λ reply front. update_fits s t update show c.args.coded c.args.moment (is_refusal reply) reply (front_value t.items) good (rw c.said.ensures at front))
-    c.meta_update_by.ensures.front)
+    c.meta_update.ensures.front)

@@ -13,7 +13,7 @@ returns-then-not-is_hidden-clause-served g c number noreply hides_is =
     let seen = filled_is_seen c.in_ok-reply.reply c.as_slice.result [] c.with.result c.with.ensures c.as_slice.ensures in
     let written = rw c.unwrap.ensures at c.write_line.ensures.ok in
     let shown = sym c.is_hidden.ensures ∙ c.if-not-is_hidden.true in
-    update_served number c.args.moment c.args.cache.now c.update_by.new.self (update_seen c.args.update.now) noreply c.args.hides c.in_ok-reply.reply c.args.output.now.items c.write_line.new.out.items
+    update_served number c.args.moment c.args.cache.now c.update.new.self (update_seen c.args.update.now) noreply c.args.hides c.in_ok-reply.reply c.args.output.now.items c.write_line.new.out.items
     facts.step facts.refusal hides_is
     (written ∙ ap (λ (bytes : List ℕ). c.args.output.now.items ++ bytes) (ap (λ (r : Reply (List ℕ)). reply_line r) seen ∙ sym (line_shown c.args.hides c.in_ok-reply.reply shown)))
 
@@ -22,6 +22,6 @@ pub returns-else-not-is_hidden-clause-served : goal.returns-else-not-is_hidden-c
 returns-else-not-is_hidden-clause-served g c number noreply hides_is =
     let facts = c.in_ok-reply.ensures in
     let hidden = sym c.is_hidden.ensures ∙ c.if-not-is_hidden.false in
-    update_served number c.args.moment c.args.cache.now c.update_by.new.self (update_seen c.args.update.now) noreply c.args.hides c.in_ok-reply.reply c.args.output.now.items c.args.output.now.items
+    update_served number c.args.moment c.args.cache.now c.update.new.self (update_seen c.args.update.now) noreply c.args.hides c.in_ok-reply.reply c.args.output.now.items c.args.output.now.items
     facts.step facts.refusal hides_is
     (sym (append-nil c.args.output.now.items) ∙ ap (λ (bytes : List ℕ). c.args.output.now.items ++ bytes) (sym (line_hidden c.args.hides c.in_ok-reply.reply hidden)))

@@ -18,5 +18,5 @@ returns-clause-left g c =
     let first : c.split_at.result.1.now ≡ drop c.args.sent c.args.output.now.items = search rules in
     let last : c.as_slice-end.result.now ≡ codes "\r\nEND\r\n" = search rules in
     let taken : c.min-taken.result ≡ min c.gather-went.result (length (drop c.args.sent c.args.output.now.items)) = rw first at c.min-taken.ensures in
-    c.let_go.ensures.kept ∙ rw (← last, c.append-2.ensures.items, c.append.ensures.items, c.left_of.ensures.left, c.left_of-behind.ensures.left, c.left_of-behind.ensures.behind)
+    c.consume_front.ensures.kept ∙ rw (← last, c.append-2.ensures.items, c.append.ensures.items, c.left_of.ensures.left, c.left_of-behind.ensures.left, c.left_of-behind.ensures.behind)
     (left_behind c.args.sent c.gather-went.result c.min-taken.result c.args.output.now.items c.args.value.now c.as_slice-end.result.now (omega (arith, c.requires.sent, c.args.output.now.ok)) taken)

@@ -1,5 +1,5 @@
 use Rattle.std.proofs.Common.{length}
-use Rattle.mc_world.proofs.OpeningLemmas.{opened_as}
+use Rattle.mc_world.proofs.Course.OpeningLemmas.{opened_as}
 use Rattle.mc_world.proofs.openings.opened_course.Goals as goal
 
 pub returns-clause-opened : goal.returns-clause-opened

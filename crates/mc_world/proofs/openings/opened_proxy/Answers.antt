@@ -4,7 +4,7 @@ use Rattle.mc_proxy.specs.ProxyState.{ProxyState, with_fresh}
 use Rattle.mc_proxy.specs.SessionState.{link_at, with_link}
 use Rattle.mc_world.specs.Worlds.{opening_proxy}
 use Rattle.mc_proxy.proofs.RaisingLemmas.{raised, raised-all, raised-at, raised-next}
-use Rattle.mc_world.proofs.WorldOpeningLemmas.{one_admitted}
+use Rattle.mc_world.proofs.Course.WorldOpeningLemmas.{one_admitted}
 use Rattle.mc_world.proofs.openings.opened_proxy.Goals as goal
 
 -- one more link is up, with the first generation

@@ -1,4 +1,4 @@
-use Rattle.mc_world.proofs.QuietLemmas.{calls_quiet}
+use Rattle.mc_world.proofs.Drain.QuietLemmas.{calls_quiet}
 use Rattle.mc_world.proofs.world_laws.nothing_is_stuck.Goals as goal
 
 pub returns : goal.returns

@@ -1,6 +1,6 @@
 use Rattle.mc_request.specs.Parts.{key_in}
 use Rattle.mc_cache.specs.Settling.{settled}
-use Rattle.mc_cache.proofs.ToldLemmas.{told_under}
+use Rattle.mc_cache.proofs.MetaReplyLemmas.{told_under}
 use Rattle.mc_cache.proofs.caches.Cache.meta_by_own.Goals as goal
 
 pub returns-in-Update-clause-step : goal.returns-in-Update-clause-step

@@ -1,7 +1,7 @@
 use Rattle.std.proofs.Common.{true, false, [], ap}
 use Rattle.mc_reply.specs.Replies.{filled}
 use Rattle.mc_reply.specs.declared.replies.Reply.TheVariants.{Stored}
-use Rattle.mc_cache.proofs.ToldLemmas.{made_value}
+use Rattle.mc_cache.proofs.MetaReplyLemmas.{made_value}
 use Rattle.mc_cache.proofs.caches.Cache.show_made.Goals as goal
 
 pub returns-in-Ok-clause-same : goal.returns-in-Ok-clause-same

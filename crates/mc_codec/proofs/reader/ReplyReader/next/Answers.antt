@@ -31,7 +31,7 @@ returns-in_ok-reply-in-Ok-clause-given c =
     let copied : c.in_ok-reply-in-Ok.reply ≡ reply = c.in_ok-reply-in-Ok.ensures in (
       ap (can_have head) copied ∙ read.allowed,
       ap (λ s. s.unread) (sym c.self.view_is) ∙ sym unread_is ∙ read.spelled ∙ ap (λ (r : Answer). spelling_of head r ++ left) (sym copied)
-          ∙ ap (λ (w : List ℕ). spelling_of head c.in_ok-reply-in-Ok.reply ++ w) (sym left_is ∙ sym c.let_go-self-inside.ensures.kept),
+          ∙ ap (λ (w : List ℕ). spelling_of head c.in_ok-reply-in-Ok.reply ++ w) (sym left_is ∙ sym c.consume_front-self-inside.ensures.kept),
     )
 
 -- memory is refused only for the value of a whole reply

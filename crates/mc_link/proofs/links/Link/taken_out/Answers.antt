@@ -5,7 +5,7 @@ use Rattle.mc_link.proofs.links.Link.taken_out.Goals as goal
 pub returns-clause-room : goal.returns-clause-room
 returns-clause-room c =
     let inside = c.self.inside in
-    let go = c.let_go-self-inside in
+    let go = c.consume_front-self-inside in
     let asked = rw (← c.self.view_is) at c.requires in
     let shorter : length go.new.bytes.items ≤ length inside.output.items =
     kept_is_no_longer (inside.sent + c.args.count) go.result inside.output.items go.new.bytes.items

@@ -1,5 +1,5 @@
 use Rattle.std.proofs.Common.{◌≡◌, ◌∷◌, ◌++◌, length, arith}
-use Rattle.mc_net.specs.Places.{ending_text}
+use Rattle.mc_net.specs.WordStarts.{ending_text}
 use Rattle.mc_net.proofs.SpaceLemmas.{ends_step, ends_done}
 use Rattle.mc_net.proofs.endings.Ending.after_each.Goals as goal
 

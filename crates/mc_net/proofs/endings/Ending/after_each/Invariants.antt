@@ -1,5 +1,5 @@
 use Rattle.std.proofs.Common.{◌++◌, length}
-use Rattle.mc_net.specs.Places.{EndsTheSame, ending_text}
+use Rattle.mc_net.specs.WordStarts.{EndsTheSame, ending_text}
 use Rattle.mc_net.proofs.endings.Ending.after_each.Given as goal
 
 abbrev pub invariant-loop-byte : goal.invariant-loop-byte

@@ -1,5 +1,5 @@
 use Rattle.mc_text.proofs.WordLemmas.{length-without_spaces}
-use Rattle.mc_net.specs.Places.{ending_text}
+use Rattle.mc_net.specs.WordStarts.{ending_text}
 use Rattle.mc_net.specs.declared.endings.Ending.TheVariants.{Between, Spaces, Version, Other}
 use Rattle.mc_net.proofs.EndLemmas.{after_version, after_other, space_between, space_after_spaces}
 use Rattle.mc_net.proofs.SpaceLemmas.{spaces_end}

@@ -1,5 +1,5 @@
 use Rattle.std.proofs.Common.{◌++◌, arith}
-use Rattle.mc_net.specs.Places.{kept_text}
+use Rattle.mc_net.specs.WordStarts.{kept_text}
 use Rattle.mc_net.proofs.SpaceLemmas.{says_then, end_of}
 use Rattle.mc_net.proofs.first_lines.FirstLine.pass.Goals as goal
 

@@ -1,5 +1,5 @@
 use Rattle.std.proofs.Common.{◌++◌, length}
-use Rattle.mc_net.specs.Places.{SaysTheSame, kept_text}
+use Rattle.mc_net.specs.WordStarts.{SaysTheSame, kept_text}
 use Rattle.mc_net.proofs.first_lines.FirstLine.pass.Given as goal
 
 -- what is kept, with the bytes that are left, says what was kept at first with all of them

@@ -1,12 +1,12 @@
 use Rattle.std.proofs.Common.{◌<◌, length, refl, arith}
-use Rattle.mc_proxy.proofs.AwaitedLemmas.{with_outcome_outside, awaited_bound, awaited_in_set, counted_bound, counts_one}
+use Rattle.mc_proxy.proofs.AwaitedLemmas.{set_outcome_outside, awaited_bound, awaited_in_set, counted_bound, counts_one}
 use Rattle.mc_proxy.proofs.unanswered.Unanswered.note.Goals as goal
 
 -- if there is no command of that number, nothing is recorded
 pub returns-then-at-len : goal.returns-then-at-len
 returns-then-at-len c =
     let own = c.self.inside in
-    let same = with_outcome_outside c.args.at c.args.outcome own.outcomes.items (omega (arith, c.if-at-len.true, c.len.ensures, own.outcomes.ok)) in
+    let same = set_outcome_outside c.args.at c.args.outcome own.outcomes.items (omega (arith, c.if-at-len.true, c.len.ensures, own.outcomes.ok)) in
     rw (← c.self.view_is) (rw same refl)
 
 -- the pending ones include the one that is recorded

@@ -10,8 +10,8 @@ overflow_add-self-inside c =
     let unread : length (drop c.self.inside.start c.self.inside.buffer.items) ≡ length c.args.self.now.unread = ap (λ (s : ReaderState). length s.unread) c.self.view_is in
     omega (arith, size, unread, length-drop c.self.inside.start c.self.inside.buffer.items, c.self.invariant.half, c.self.inside.buffer.ok)
 
-pub let_go-self-inside-requires : goal.let_go-self-inside-requires
-let_go-self-inside-requires c =
+pub consume_front-self-inside-requires : goal.consume_front-self-inside-requires
+consume_front-self-inside-requires c =
     let size = front_size c.args.self.now c.args.front c.requires in
     let unread : length (drop c.self.inside.start c.self.inside.buffer.items) ≡ length c.args.self.now.unread = ap (λ (s : ReaderState). length s.unread) c.self.view_is in
     omega (arith, size, unread, length-drop c.self.inside.start c.self.inside.buffer.items, c.self.invariant.half, c.self.inside.buffer.ok)

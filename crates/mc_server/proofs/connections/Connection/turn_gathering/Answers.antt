@@ -2,16 +2,16 @@ use Rattle.std.proofs.Common.{◌≡◌, ℕ, List, length, drop, refl, ap, arit
 use Rattle.std.proofs.lemmas.Result.{IfOk-weaker}
 use Rattle.mc_request_reader.specs.Peeks.{get_of}
 use Rattle.mc_request_reader.proofs.ReaderLemmas.{shown_is_first, shown_closes, shown_waits}
-use Rattle.mc_request.specs.declared.parts.Taken.{Taken}
+use Rattle.mc_request.specs.declared.parts.Parsed.{Parsed}
 use Rattle.mc_server.specs.Rooms.{bound_of, taken_bound}
 use Rattle.mc_server.proofs.GatherLemmas.{gathered_none, keeps_same}
 use Rattle.mc_server.proofs.RoomLemmas.{room_within}
 use Rattle.mc_server.proofs.connections.Connection.turn_gathering.Goals as goal
 
 -- nothing is pending
-pub returns-then-is_short-clause-turn : goal.returns-then-is_short-clause-turn
-returns-then-is_short-clause-turn g c number =
-    (refl, keeps_same _, rw (← c.self.view_is) (record { none = c.is_short.ensures.short c.if-is_short.true; cache = refl; output = refl }))
+pub returns-then-needs_more-clause-turn : goal.returns-then-needs_more-clause-turn
+returns-then-needs_more-clause-turn g c number =
+    (refl, keeps_same _, rw (← c.self.view_is) (record { none = c.needs_more.ensures.short c.if-needs_more.true; cache = refl; output = refl }))
 
 -- the answer may be too large
 pub returns-then-is_passed_by_get-clause-turn : goal.returns-then-is_passed_by_get-clause-turn
@@ -35,7 +35,7 @@ returns-in-Some-clause-bounded g c =
     let within = room_within (get_of c.in-Some.get) c.args.cache.now good in
     let len = c.serve_get-put.ensures.len in
     let waits = shown_waits _ _ _ seen in
-    let bound : bound_of _ c.args.cache.now ≡ taken_bound (get_of c.in-Some.get) c.args.cache.now = ap (λ (ts : List Taken). bound_of ts c.args.cache.now) waits in
+    let bound : bound_of _ c.args.cache.now ≡ taken_bound (get_of c.in-Some.get) c.args.cache.now = ap (λ (ts : List Parsed). bound_of ts c.args.cache.now) waits in
     let size = ap (λ (bytes : List ℕ). length (drop c.self.inside.sent bytes)) c.reserve.ensures.items in
     rw (← c.self.view_is) (omega (arith, within, len, bound, size))
 

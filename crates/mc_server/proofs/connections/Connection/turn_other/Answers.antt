@@ -4,7 +4,7 @@ use Rattle.mc_request.specs.LinesSeen.{asked_of, meaning_of}
 use Rattle.mc_request_reader.specs.Peeks.{front_by, IsAlone}
 use Rattle.mc_request_reader.specs.declared.peeks.Front.{Front}
 use Rattle.mc_request_reader.proofs.ReaderLemmas.{shown_is_first, shown_closes, shown_waits}
-use Rattle.mc_request.specs.declared.parts.Taken.{Taken}
+use Rattle.mc_request.specs.declared.parts.Parsed.{Parsed}
 use Rattle.mc_server.specs.Rooms.{bound_of, taken_bound}
 use Rattle.mc_server.proofs.RoomLemmas.{room_within}
 use Rattle.mc_server.proofs.connections.Connection.turn_other.Goals as goal
@@ -50,5 +50,5 @@ returns-else-not-branch-clause-bounded g c =
     let within = room_within what c.args.cache.now (c.in-Some.ensures.well_formed what alone) in
     let len = c.in_ok-serve_within-in-Alone.ensures.len in
     let waits = shown_waits _ _ _ (c.in-Some.ensures.seen what alone) in
-    let bound : bound_of _ c.args.cache.now ≡ taken_bound what c.args.cache.now = ap (λ (ts : List Taken). bound_of ts c.args.cache.now) waits in
+    let bound : bound_of _ c.args.cache.now ≡ taken_bound what c.args.cache.now = ap (λ (ts : List Parsed). bound_of ts c.args.cache.now) waits in
     rw (← c.self.view_is) (omega (arith, within, len, bound, length-drop c.self.inside.sent c.serve_within.new.output.items, length-drop c.self.inside.sent c.self.inside.output.items, c.serve_within.new.output.ok, c.self.inside.output.ok))

@@ -2,7 +2,7 @@ use Rattle.std.proofs.Common.{◌≡◌, ◌≤◌, Bool, List, Ok, length, leng
 use Rattle.std.proofs.lemmas.List.{drop-append-le}
 use Rattle.mc_request.specs.LinesSeen.{asked_of}
 use Rattle.mc_request_reader.proofs.ReaderLemmas.{shown_is_first, shown_closes, shown_waits}
-use Rattle.mc_request.specs.declared.parts.Taken.{Taken}
+use Rattle.mc_request.specs.declared.parts.Parsed.{Parsed}
 use Rattle.mc_server.specs.Rooms.{bound_of, taken_bound}
 use Rattle.mc_server.proofs.RoomLemmas.{room_within}
 use Rattle.mc_server.proofs.connections.Connection.turn_peeked.Goals as goal
@@ -44,5 +44,5 @@ returns-clause-bounded g c =
     let within = room_within (asked_of c.in-First.asked) c.args.cache.now good in
     let len = c.in_ok-serve_within-in-First.ensures.len in
     let waits = shown_waits _ _ _ seen in
-    let bound : bound_of _ c.args.cache.now ≡ taken_bound (asked_of c.in-First.asked) c.args.cache.now = ap (λ (ts : List Taken). bound_of ts c.args.cache.now) waits in
+    let bound : bound_of _ c.args.cache.now ≡ taken_bound (asked_of c.in-First.asked) c.args.cache.now = ap (λ (ts : List Parsed). bound_of ts c.args.cache.now) waits in
     rw (← c.self.view_is) (omega (arith, within, len, bound, length-drop c.self.inside.sent c.serve_within.new.output.items, length-drop c.self.inside.sent c.self.inside.output.items, c.serve_within.new.output.ok, c.self.inside.output.ok))

@@ -1,6 +1,6 @@
 use Rattle.std.proofs.Common.{◌≡◌, ◌≤◌, [], List, length, length-append, length-drop, ap, arith}
 use Rattle.std.proofs.lemmas.List.{drop-append-le}
-use Rattle.mc_request.specs.declared.parts.Taken.{Taken}
+use Rattle.mc_request.specs.declared.parts.Parsed.{Parsed}
 use Rattle.mc_request_reader.specs.Peeks.{set_of}
 use Rattle.mc_server.specs.Rooms.{bound_of, taken_bound}
 use Rattle.mc_server.proofs.connections.Connection.turn_set.Goals as goal
@@ -36,13 +36,13 @@ returns-clause-turn g c number =
 -- no more is written than was reported
 pub returns-clause-bounded : goal.returns-clause-bounded
 returns-clause-bounded g c =
-    let what : Taken = set_of c.in_ok-set.set in
-    let bound : bound_of _ c.args.cache.now ≡ taken_bound what c.args.cache.now = ap (λ (ts : List Taken). bound_of ts c.args.cache.now) (c.in_ok-set.ensures.first.rest []) in
+    let what : Parsed = set_of c.in_ok-set.set in
+    let bound : bound_of _ c.args.cache.now ≡ taken_bound what c.args.cache.now = ap (λ (ts : List Parsed). bound_of ts c.args.cache.now) (c.in_ok-set.ensures.first.rest []) in
     let len = c.serve_set.ensures.len in
     rw (← c.self.view_is) (omega (arith, len, bound, length-drop c.self.inside.sent c.serve_set.new.output.items, length-drop c.self.inside.sent c.self.inside.output.items, c.serve_set.new.output.ok, c.self.inside.output.ok, c.reserve.new.self.ok))
 
 pub returns-clause-within : goal.returns-clause-within
 returns-clause-within g c =
-    let what : Taken = set_of c.in_ok-set.set in
-    let bound : bound_of _ c.args.cache.now ≡ taken_bound what c.args.cache.now = ap (λ (ts : List Taken). bound_of ts c.args.cache.now) (c.in_ok-set.ensures.first.rest []) in
+    let what : Parsed = set_of c.in_ok-set.set in
+    let bound : bound_of _ c.args.cache.now ≡ taken_bound what c.args.cache.now = ap (λ (ts : List Parsed). bound_of ts c.args.cache.now) (c.in_ok-set.ensures.first.rest []) in
     rw (← c.self.view_is) (omega (arith, bound))

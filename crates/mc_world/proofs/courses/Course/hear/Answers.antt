@@ -5,7 +5,7 @@ use Rattle.mc_world.specs.Pools.{HearsClient}
 use Rattle.mc_world.specs.Worlds.{client_at, nobody}
 use Rattle.mc_world.specs.declared.errors.Step.{Step}
 use Rattle.mc_world.specs.declared.errors.Step.TheVariants.{Done}
-use Rattle.mc_world.proofs.CourseLemmas.{with_text}
+use Rattle.mc_world.proofs.Course.CourseLemmas.{with_text}
 use Rattle.mc_world.proofs.courses.Course.hear.Goals as goal
 
 -- the session and the client's text have the piece

@@ -7,7 +7,7 @@ use Rattle.mc_world.specs.Worlds.{WorldState}
 use Rattle.mc_world.specs.declared.errors.Step.TheVariants.{Done}
 use Rattle.mc_world.specs.declared.worlds.World.TheInside.{Inside}
 use Rattle.mc_world.specs.declared.events.Event.{Event}
-use Rattle.mc_world.proofs.DrainLemmas.{act_done}
+use Rattle.mc_world.proofs.Drain.DrainLemmas.{act_done}
 use Rattle.mc_world.proofs.worlds.World.act.Goals as goal
 
 -- what was done leaves less to do

@@ -1,7 +1,7 @@
 use Rattle.mc_world.specs.Acts.{GoesOn}
 use Rattle.mc_world.specs.Rounds.{Repeats, Then}
 use Rattle.mc_world.specs.WorkLeft.{work_left}
-use Rattle.mc_world.proofs.RoundLemmas.{Times}
+use Rattle.mc_world.proofs.Drain.RoundLemmas.{Times}
 use Rattle.mc_world.proofs.worlds.World.alternate.Given as goal
 
 -- what was done so far: the one act and then the other, a number of times

@@ -1,5 +1,5 @@
-use Rattle.mc_world.proofs.OpeningLemmas.{world_of}
-use Rattle.mc_world.proofs.StepLemmas.{world_accounts}
+use Rattle.mc_world.proofs.Course.OpeningLemmas.{world_of}
+use Rattle.mc_world.proofs.Course.StepLemmas.{world_accounts}
 use Rattle.mc_world.proofs.worlds.World.gives_account.Goals as goal
 
 pub returns : goal.returns

@@ -1,7 +1,7 @@
 use Rattle.std.proofs.Common.{rules, ◌<◌, ◌^◌, length, subst}
 use Rattle.mc_world.specs.CourseHolds.{WorldHolds}
 use Rattle.mc_world.specs.Worlds.{WorldState, cache_of}
-use Rattle.mc_world.proofs.RestLemmas.{rested_quiet}
+use Rattle.mc_world.proofs.Drain.RestLemmas.{rested_quiet}
 use Rattle.mc_world.proofs.worlds.World.is_quiet.Goals as goal
 
 pub returns : goal.returns

@@ -1,7 +1,7 @@
 use Rattle.std.proofs.Common.{rules, ◌≡◌, ◌∙◌}
 use Rattle.mc_cache.specs.CacheState.{opening_cache}
-use Rattle.mc_world.proofs.PolicyLemmas.{joined_losses}
-use Rattle.mc_world.proofs.StepLemmas.{course_joined, world_accounts}
+use Rattle.mc_world.proofs.Log.PolicyLemmas.{joined_losses}
+use Rattle.mc_world.proofs.Course.StepLemmas.{course_joined, world_accounts}
 use Rattle.mc_world.proofs.worlds.World.join_server.Goals as goal
 
 -- the course holds after the join

@@ -1,9 +1,9 @@
 use Rattle.std.proofs.Common.{Bool, refl, subst}
 use Rattle.mc_world.specs.Acts.{GoesOn, IsIdle}
 use Rattle.mc_world.specs.Rounds.{IsActed}
-use Rattle.mc_world.proofs.AppliesLemmas.{at_error}
-use Rattle.mc_world.proofs.DrainLemmas.{drained, drained_then, goes_did}
-use Rattle.mc_world.proofs.RoundLemmas.{times_more, until_over}
+use Rattle.mc_world.proofs.Pool.AppliesLemmas.{at_error}
+use Rattle.mc_world.proofs.Drain.DrainLemmas.{drained, drained_then, goes_did}
+use Rattle.mc_world.proofs.Drain.RoundLemmas.{times_more, until_over}
 use Rattle.mc_world.proofs.worlds.World.repeat.Goals as goal
 
 pub loop-did-init : goal.loop-did-init

@@ -1,7 +1,7 @@
 use Rattle.mc_world.specs.Acts.{GoesOn}
 use Rattle.mc_world.specs.Rounds.{IsActed}
 use Rattle.mc_world.specs.WorkLeft.{work_left}
-use Rattle.mc_world.proofs.RoundLemmas.{Times}
+use Rattle.mc_world.proofs.Drain.RoundLemmas.{Times}
 use Rattle.mc_world.proofs.worlds.World.repeat.Given as goal
 
 -- what was done so far: the act, a number of times

@@ -1,8 +1,8 @@
 use Rattle.std.proofs.Common.{refl}
 use Rattle.mc_world.specs.Acts.{HasDrained, IsRested}
 use Rattle.mc_world.specs.Rounds.{IsRound}
-use Rattle.mc_world.proofs.DrainLemmas.{drained, drained_then}
-use Rattle.mc_world.proofs.RoundLemmas.{ended_still, times_more, until_over}
+use Rattle.mc_world.proofs.Drain.DrainLemmas.{drained, drained_then}
+use Rattle.mc_world.proofs.Drain.RoundLemmas.{ended_still, times_more, until_over}
 use Rattle.mc_world.proofs.worlds.World.rest.Goals as goal
 
 pub loop-init : goal.loop-init

@@ -3,7 +3,7 @@ use Rattle.mc_world.specs.Rounds.{IsRound, SeesEnds}
 use Rattle.mc_world.specs.WorkLeft.{work_left}
 use Rattle.mc_world.specs.Worlds.{CourseState}
 use Rattle.mc_world.specs.declared.acts.Act.TheVariants.{SeeEnd}
-use Rattle.mc_world.proofs.RoundLemmas.{Times}
+use Rattle.mc_world.proofs.Drain.RoundLemmas.{Times}
 use Rattle.mc_world.proofs.worlds.World.rest.Given as goal
 
 -- what was done so far: the ends, and a number of rounds

@@ -1,7 +1,7 @@
 use Rattle.std.proofs.Common.{rules, ◌≡◌, ◌∙◌}
 use Rattle.mc_cache.specs.CacheState.{opening_cache}
-use Rattle.mc_world.proofs.PolicyLemmas.{restarted_losses}
-use Rattle.mc_world.proofs.StepLemmas.{course_restarted, course_serves, world_accounts}
+use Rattle.mc_world.proofs.Log.PolicyLemmas.{restarted_losses}
+use Rattle.mc_world.proofs.Course.StepLemmas.{course_restarted, course_serves, world_accounts}
 use Rattle.mc_world.proofs.worlds.World.restart_server.Goals as goal
 
 -- a course that holds serves

@@ -2,7 +2,7 @@ use Rattle.std.proofs.Common.{◌≡◌, ◌∙◌, ℕ, ◌+◌, List, [], ◌�
 use Rattle.std.specs.Result.{is_err}
 use Rattle.mc_world.specs.Steps.{RunsTo}
 use Rattle.mc_world.specs.declared.events.Event.{Event}
-use Rattle.mc_world.proofs.StepLemmas.{runs-more, take-next, tried, tried_in_vain}
+use Rattle.mc_world.proofs.Course.StepLemmas.{runs-more, take-next, tried, tried_in_vain}
 use Rattle.mc_world.proofs.worlds.World.run.Goals as goal
 use Rattle.mc_world.proofs.worlds.World.run.Goals.{then-is_err, else-is_err}
 

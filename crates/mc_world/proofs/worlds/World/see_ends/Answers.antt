@@ -4,8 +4,8 @@ use Rattle.mc_world.specs.CourseHolds.{WorldHolds}
 use Rattle.mc_world.specs.Rounds.{InOrder, Repeats}
 use Rattle.mc_world.specs.Worlds.{WorldState}
 use Rattle.mc_world.specs.declared.acts.Act.TheVariants.{SeeEnd}
-use Rattle.mc_world.proofs.DrainLemmas.{drained, drained_none, drained_then}
-use Rattle.mc_world.proofs.RoundLemmas.{below_next, ended_all, order_more}
+use Rattle.mc_world.proofs.Drain.DrainLemmas.{drained, drained_none, drained_then}
+use Rattle.mc_world.proofs.Drain.RoundLemmas.{below_next, ended_all, order_more}
 use Rattle.mc_world.proofs.worlds.World.see_ends.Goals as goal
 
 pub loop-place-init : goal.loop-place-init

@@ -2,7 +2,7 @@ use Rattle.std.proofs.Common.{ℕ, ◌<◌}
 use Rattle.mc_world.specs.Acts.{HasDrained}
 use Rattle.mc_world.specs.Rounds.{InOrder, Repeats}
 use Rattle.mc_world.specs.declared.acts.Act.TheVariants.{SeeEnd}
-use Rattle.mc_world.proofs.RoundLemmas.{HasNoLost}
+use Rattle.mc_world.proofs.Drain.RoundLemmas.{HasNoLost}
 use Rattle.mc_world.proofs.worlds.World.see_ends.Given as goal
 
 -- the first servers have seen all their ends

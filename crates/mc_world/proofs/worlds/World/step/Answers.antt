@@ -1,8 +1,8 @@
 use Rattle.std.proofs.Common.{◌∙◌}
 use Rattle.mc_cache.specs.CacheState.{opening_cache}
 use Rattle.mc_world.specs.Steps.{StepsTo}
-use Rattle.mc_world.proofs.PolicyLemmas.{stepped_losses}
-use Rattle.mc_world.proofs.StepLemmas.{answer_mapped, course_serves, course_stepped, stepped, world_accounts}
+use Rattle.mc_world.proofs.Log.PolicyLemmas.{stepped_losses}
+use Rattle.mc_world.proofs.Course.StepLemmas.{answer_mapped, course_serves, course_stepped, stepped, world_accounts}
 use Rattle.mc_world.proofs.worlds.World.step.Goals as goal
 
 -- a course that holds serves

@@ -1,8 +1,8 @@
 use Rattle.std.proofs.Common.{◌≡◌, sym, subst}
 use Rattle.mc_world.specs.CourseHolds.{WorldHolds}
 use Rattle.mc_world.specs.Worlds.{WorldState}
-use Rattle.mc_world.proofs.OpeningLemmas.{opened_world, world_of}
-use Rattle.mc_world.proofs.StepLemmas.{world_accounts, world_opens}
+use Rattle.mc_world.proofs.Course.OpeningLemmas.{opened_world, world_of}
+use Rattle.mc_world.proofs.Course.StepLemmas.{world_accounts, world_opens}
 use Rattle.mc_world.proofs.worlds.World.with_losses.Goals as goal
 
 pub invariant_of-result : goal.invariant_of-result

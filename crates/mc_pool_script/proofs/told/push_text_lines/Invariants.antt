@@ -1,6 +1,0 @@
-use Rattle.std.proofs.Common.{◌≡◌, ◌++◌}
-use Rattle.mc_pool_script.specs.Told.{text_lines}
-use Rattle.mc_pool_script.proofs.told.push_text_lines.Given as goal
-
-abbrev pub invariant-loop-client : goal.invariant-loop-client
-invariant-loop-client g l = l.out.items ≡ l.fn.out.items ++ text_lines l.client l.world.course

@@ -1,7 +1,0 @@
-use Rattle.std.proofs.Common.{refl}
-use Rattle.mc_proxy.proofs.LinkLemmas.{states-set_same}
-use Rattle.mc_proxy.proofs.proxies.Proxy.link_give_back.Goals as goal
-
--- only room is freed
-pub returns : goal.returns
-returns c = rw (← c.self.view_is, states-set_same c.self.inside.links.items c.args.server c.in-Some.link.now c.give_back.new.self c.in-Some.ensures.value c.give_back.ensures) refl

@@ -1,7 +1,0 @@
-use Rattle.std.proofs.Common.{◌-◌, Some}
-use Rattle.mc_table.proofs.HashedLemmas.{stands_alone}
-use Rattle.mc_table.proofs.chained.HashIndex.get_index_by.Goals as goal
-
-pub returns-then-stands_at-clause-found : goal.returns-then-stands_at-clause-found
-returns-then-stands_at-clause-found g c =
-    stands_alone g.K.PartialEq.eq (g.Q.Equivalent.equivalent c.args.query) _ _ c.self.inside.slots.items _ (Some (c.args.place - 1)) (g.met.Q.Equivalent.respects_eq c.args.query) c.self.invariant c.self.view_is (c.stands_at.ensures c.if-stands_at.true).1

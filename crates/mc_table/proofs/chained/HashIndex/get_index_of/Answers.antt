@@ -1,6 +1,0 @@
-use Rattle.mc_table.proofs.HashedLemmas.{stands_alone}
-use Rattle.mc_table.proofs.chained.HashIndex.get_index_of.Goals as goal
-
-pub returns-clause-found : goal.returns-clause-found
-returns-clause-found g c =
-    stands_alone g.K.PartialEq.eq (g.Q.Equivalent.equivalent c.args.query) _ _ c.self.inside.slots.items _ c.search.result (g.met.Q.Equivalent.respects_eq c.args.query) c.self.invariant c.self.view_is c.search.ensures.found

@@ -1,9 +1,0 @@
-use Rattle.std.proofs.Common.{ap, ◌∙◌}
-use Rattle.mc_table.specs.declared.links.LruNode.{LruNode}
-use Rattle.mc_table.specs.Places.{last_of}
-use Rattle.mc_table.proofs.OrderLemmas.{zero_read, ring_last}
-use Rattle.mc_table.proofs.orders.LruList.last.Goals as goal
-
-pub returns : goal.returns
-returns c =
-    ap (λ (l : LruNode). l.before) (zero_read _ _ _ c.self.invariant c.index.ensures) ∙ ring_last _ c.self.invariant ∙ ap last_of c.self.view_is

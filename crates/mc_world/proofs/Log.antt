@@ -1,0 +1,20 @@
+-- What a log leaves of a pool.
+pub mod LogLemmas
+pub mod EntryLemmas
+pub mod OrderLemmas
+pub mod ServerLemmas
+pub mod OutcomeLemmas
+pub mod RequestLemmas
+pub mod HistoryLemmas
+pub mod CommandLemmas
+pub mod TakenLemmas
+pub mod WaitingLemmas
+pub mod StillLemmas
+pub mod LivingLemmas
+pub mod HoldsLemmas
+pub mod TurnLemmas
+pub mod FollowLemmas
+pub mod GoingLemmas
+pub mod LifeLemmas
+pub mod PolicyLemmas
+pub mod AccountLemmas

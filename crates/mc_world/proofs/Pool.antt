@@ -1,0 +1,7 @@
+-- A pool, and its commands.
+pub mod AccountLemmas
+pub mod PoolLemmas
+pub mod AppliesLemmas
+pub mod ApplyingLemmas
+pub mod StillLemmas
+pub mod CommandLemmas

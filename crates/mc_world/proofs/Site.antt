@@ -1,0 +1,10 @@
+-- A server of a pool, its link and its ways.
+pub mod CountLemmas
+pub mod SiteLemmas
+pub mod MoveLemmas
+pub mod LossLemmas
+pub mod LateLemmas
+pub mod TurnLemmas
+pub mod TagLemmas
+pub mod ServingLemmas
+pub mod WayLemmas
