@@ -182,8 +182,7 @@ impl<'a> ProxyLoop<'a> {
     }
 
     /// Serves the next client, if its request may have waited for a link that fell below its mark, unless each such link has reached its mark
-    /// again.
-    /// The client behind it is the next one, also at the next pass: otherwise a few could keep a slow server's link for themselves.
+    /// again. The next pass begins with the client behind it: otherwise a few could keep a slow server's link for themselves.
     fn resume_next(&mut self) {
         let freed = self.freed.as_slice();
         if self.handler.are_marked(freed) {

@@ -14,13 +14,13 @@ use std::test::Fail;
 /// How many bytes a piece of a client's text has at most: less than a data block.
 const PIECE: usize = 20_000;
 
-/// How many times 16 bytes a value has: it has 65,536, so it is kept apart as it comes, and is shown from where it is.
+/// How many times 16 bytes a value has: it has 65,536, so it is kept apart as it arrives, and is sent from where it is stored.
 const SIXTEENS: usize = 4_096;
 
 /// More requests than a client here sends at a time.
 const MANY: usize = 20;
 
-/// What is before the value and behind it, if it is shown: with ample memory; then with one store refused.
+/// The bytes before the value and after it, if it is shown: with ample memory; then with one store refused.
 const SHOWN: [(&[u8], &[u8]); 3] = [
     (
         b"STORED\r\nSTORED\r\nVALUE a 0 65536\r\n",
@@ -36,7 +36,7 @@ const SHOWN: [(&[u8], &[u8]); 3] = [
     ),
 ];
 
-/// What is answered if memory is short from the first data block on, and until the reserve is whole again.
+/// The answers if memory is short from the first data block on, and until the reserve is whole again.
 const SHORT: &[u8] =
     b"SERVER_ERROR out of memory storing object\r\nSERVER_ERROR out of memory storing object\r\nEND\r\nSTORED\r\n";
 
@@ -90,7 +90,7 @@ fn turn(
     turn_once(server, number)
 }
 
-/// Feeds a text in pieces, and takes each request as it is whole. Each call may be made so many times.
+/// Feeds a text in pieces, and takes each request once it is whole. Each call is tried at most this many times.
 fn say(
     server: &mut Server<MeagreStore>,
     number: u64,
@@ -108,7 +108,7 @@ fn say(
     Ok(())
 }
 
-/// The dialogue of a client with a server that keeps so many bytes in reserve: two `set`s of one key, a `get` of it, and a `set` of another
+/// The dialogue of a client with a server that keeps this number of bytes in reserve: two `set`s of one key, a `get` of it, and a `set` of another
 /// key once the reserve is whole.
 fn talk(
     server: &mut Server<MeagreStore>,
@@ -126,7 +126,7 @@ fn talk(
     Ok(number)
 }
 
-/// Whether what is answered shows the value, with at most one store refused.
+/// Whether the output shows the value, with at most one store refused.
 fn is_shown(alloc: Global, output: &[u8]) -> Result<bool, AllocError> {
     for (before, after) in SHOWN {
         if output == text(alloc, before, after)?.as_slice() {
@@ -147,7 +147,7 @@ fn large_values_are_stored_all_the_same(rt: HostRuntime) -> Result<(), Fail> {
     Ok(())
 }
 
-/// With a reserve each call is made once. If one needs the reserve, keys that are not held are refused until it is whole again.
+/// With a reserve each call is made once. If a call needs the reserve, missing keys are refused until it is whole again.
 #[test]
 fn a_reserve_serves_what_is_refused(rt: HostRuntime) -> Result<(), Fail> {
     let alloc = rt.alloc();
