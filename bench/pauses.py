@@ -26,7 +26,7 @@ after --beside has SERVERs too). They have 100,000 items of 20 and 100 bytes, an
 
 On four processors or more each client has one of its own, a server the others, and a proxy and the servers behind it one each.
 --words gives SERVER, or PROXY, further options. The output is a table in Markdown: how many gets took how many milliseconds, and the
-longest.
+longest. The last line says for how long a virtual machine's processors stood still: a get waits then whatever the server does.
 """
 
 import argparse
@@ -132,19 +132,26 @@ def measure_mix(program, asked, mix):
         measure(program, words, asked, mix)
 
 
+def stolen():
+    """How many seconds the machine's processors stood still so far, since its own host ran something else."""
+    fields = pathlib.Path("/proc/stat").read_text().split("\n", 1)[0].split()
+    return int(fields[8]) / os.sysconf("SC_CLK_TCK")
+
+
 def run(asked):
     steps = pause_loads.STEPS
     head = ["Program", "The other client", "Items", "Seconds", "Its requests a second", f"Below {steps[0]} ms"]
     head += [*(f"{low} to {high}" for low, high in zip(steps, steps[1:])), f"{steps[-1]} and more", "Longest"]
     print(f"{datetime.datetime.now():%Y-%m-%d %H:%M}, {os.cpu_count()} processors; load at the start {os.getloadavg()[0]:.2f}.\n")
     print("| " + " | ".join(head) + " |\n|" + "---|" * len(head), flush=True)
+    start = stolen()
     for mix in asked.mixes:
         for program in (asked.through or asked.server, asked.beside):
             try:
                 measure_mix(program, asked, mix)
             except (EOFError, OSError) as error:
                 print(f"| {pathlib.Path(program).name} | {mix}: ended by {error!r} |", flush=True)
-    print(f"\nLoad of the machine at the end: {os.getloadavg()[0]:.2f}.")
+    print(f"\nLoad of the machine at the end: {os.getloadavg()[0]:.2f}; its host held its processors back for {stolen() - start:.1f} seconds.")
 
 
 def main():

@@ -170,8 +170,8 @@ impl<S: Store + Drop> Cache<S> {
         self.store.prefetches()
     }
 
-    /// Prefetches: loads the items of keys, and writes a hint of each key's item, [`Hint::none`] if there is no such item. It changes nothing
-    /// else, and takes no memory. The returned byte only keeps the loads alive ([`Store::prefetch`]).
+    /// Prefetches: loads the items of keys, and writes a hint for each key. A hint may be wrong, and [`Hint::none`] says that no slot was
+    /// found. It changes nothing else, and takes no memory. The returned byte only keeps the loads alive ([`Store::prefetch`]).
     pub fn prefetch(&self, keys: &[&[u8]], hints: &mut [Hint]) -> u8 {
         self.store.prefetch(keys, hints)
     }

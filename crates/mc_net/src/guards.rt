@@ -63,9 +63,12 @@ impl Guard<'_> {
     }
 }
 
-/// Returns the input of a client, by its socket, and by what is known of its first line and of its input. After the reads its caller keeps
-/// what `readiness` and `first` of it are then.
-pub fn guarded(stream: &TcpStream, first: FirstLine, readiness: Readiness) -> Input<Guard<'_>> {
+/// Returns the input of a client, by its socket, and by what is known of its first line and of its readiness. After the reads its caller keeps
+/// what its `first` and its `readiness` are then.
+pub fn guarded(stream: &TcpStream, first: FirstLine, readiness: Readiness) -> Input<Guard<'_>>
+    ensures first { result.stream.first ≡ first }
+    ensures readiness { result.readiness ≡ readiness }
+{
     Input {
         stream: Guard { stream, first },
         readiness,

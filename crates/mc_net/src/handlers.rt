@@ -40,8 +40,8 @@ pub trait Handler<K> {
         requires { moment < 2 ^ 63 }
         ensures { client.new.number ≡ client.old.number };
 
-    /// Frees the memory that is reserved for a client's empty buffers, except `room` bytes of each.
-    fn shrink_if_idle(&mut self, number: u64, room: usize);
+    /// Frees the memory of each of a client's empty buffers that has more than `kept` bytes reserved.
+    fn shrink_if_idle(&mut self, number: u64, kept: usize);
 
     /// Returns whether a client has pending answers.
     fn owes(&self, number: u64) -> bool;

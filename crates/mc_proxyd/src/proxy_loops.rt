@@ -68,8 +68,8 @@ pub struct ProxyLoop<'a> {
 }
 
 impl<'a> ProxyLoop<'a> {
-    /// Makes a host without a client, for a listener at a place and upstreams that were not tried, and with the look-ups of their hosts. A
-    /// random number decides when upstreams that failed are tried again.
+    /// Makes the loop of a proxy without a client, for a listener at an address, upstreams that were not tried, and the look-ups of their
+    /// hosts' names. A random number decides when upstreams that failed are tried again.
     pub fn new(
         alloc: Global,
         listen: &'a str,

@@ -1,4 +1,4 @@
-//! Requests that are copied to be the caller's own, and their commands: the public form. A server and a proxy serve borrowed ones.
+//! Borrowed requests, copied to be the caller's own, and the commands of owned ones. A server serves borrowed ones, and copies none.
 ghost use Rattle.std.specs.Prelude.{◌≡◌, ◌∷◌, ◌<◌, [], true, length, IfOk};
 ghost use Rattle.std.specs.List.{list_all};
 ghost use Rattle.mc_text.specs.Keys.{is_plain_key};

@@ -125,7 +125,7 @@ impl Ahead {
         }
     }
 
-    /// Returns the hint for the next meta command's key: [`Hint::none`] for one in base64, which no look takes.
+    /// Returns the hint for the next meta command's key: [`Hint::none`] for one in base64, which looks mostly leave out.
     #[inline]
     pub fn next_for(&mut self, coded: bool) -> Hint {
         if coded { Hint::none() } else { self.next() }

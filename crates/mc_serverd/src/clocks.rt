@@ -6,8 +6,8 @@ use mc_net::{Stopwatch, wall_clock};
 use std::marker::Model;
 use std::rt::Clock;
 
-/// The clock of a server, the source of its moments: the wall clock's time when this one was made, and from then on the time that has passed by the monotonic
-/// clock. So setting the wall clock neither expires nor prolongs an item. Contracts see the moment that it returned last.
+/// The clock of a server. A moment is the wall clock's time at its start, and the time that the monotonic clock has counted since. So
+/// setting the wall clock neither expires nor prolongs an item. Contracts see the moment that it returned last.
 ///
 /// Both parts are whole seconds, so a moment may be a second before that of a wall clock that was never set. While the machine
 /// is suspended the clock stops.

@@ -38,7 +38,7 @@ pub struct ServerLoop<'a, S: Store + Drop> {
     /// Whether it has reported that its items are at their limit while much of its budget is free.
     advised: bool,
     /// The number of refused calls that it has reported.
-    told_refused: u64,
+    reported: u64,
     /// Whether it ends, since it was refused memory for as long as the settings allow.
     ended: bool,
     start: u64,
@@ -73,7 +73,7 @@ fn room_beside(operators: u64) -> Option<Room> {
 }
 
 impl<'a, S: Store + Drop> ServerLoop<'a, S> {
-    /// Makes a host without a client, over a server whose store counts its operations, from a moment on. It listens at this host and port.
+    /// Makes the loop of a server whose store counts its operations, without a client, from a moment on. It says that it listens at `listen`.
     pub fn new(
         alloc: Global,
         listen: &'a str,
@@ -102,7 +102,7 @@ impl<'a, S: Store + Drop> ServerLoop<'a, S> {
             counts,
             settings: *settings,
             advised: false,
-            told_refused: 0,
+            reported: 0,
             ended: false,
             start: moment,
             moment,
@@ -179,14 +179,19 @@ impl<'a, S: Store + Drop> ServerLoop<'a, S> {
         let _ = eprintln!(rt; "{PROGRAM}: {clients} {counts}");
     }
 
+    /// Returns whether calls were refused memory that no line reports yet.
+    fn has_refused(&self) -> bool {
+        self.counts.refused() != self.reported
+    }
+
     /// Reports on standard error how many calls were refused memory since its last report, and notes whether that ends the server.
-    fn tell_refused<R: Eprint>(&mut self, rt: &R) {
+    fn report_refused<R: Eprint>(&mut self, rt: &R) {
         let count = self.counts.refused();
-        let refused = count.wrapping_sub(self.told_refused);
+        let refused = count.wrapping_sub(self.reported);
         if refused == 0 {
             return;
         }
-        self.told_refused = count;
+        self.reported = count;
         self.ended = self.counts.is_over(self.settings.service.memory_exit);
         // Best effort: a failed write to standard error must not stop serving.
         let _ = eprintln!(rt; "{PROGRAM}: out of memory: {refused} refused");
@@ -227,7 +232,7 @@ where
         let goes_on = self.clients.goes_on()
             || self.operators.goes_on()
             || (backlog == Backlog::More && !self.is_full());
-        let soon = self.clients.is_busy() || backlog.is_refused();
+        let soon = self.clients.is_busy() || backlog.is_refused() || self.has_refused();
         let due = earlier(self.clients.due(), self.ticker.due());
         let due = earlier(due, self.operators.due());
         let left = due.map(|due| due.saturating_sub(self.moment).saturating_mul(1000));
@@ -270,7 +275,7 @@ where
         self.clients.sweep(&mut self.handler, self.moment);
         self.handler.keep_reserve();
         self.advise(rt);
-        self.tell_refused(rt);
+        self.report_refused(rt);
         if self.ticker.comes(self.moment) {
             self.report(rt, accepted);
         }

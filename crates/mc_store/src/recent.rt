@@ -16,7 +16,7 @@ use mc_text::Key;
 
 /// Entries by key, the most recently used first.
 ///
-/// A key is looked up by its bytes. A call that looks one up takes a hint of its entry's slot, which affects only the speed. Only
+/// A key is looked up by its bytes. Most calls that look one up take a hint of its entry's slot, which affects only the speed. Only
 /// [`Recent::put`] takes memory.
 pub trait Recent {
     /// The entries, most recent first.
@@ -52,9 +52,9 @@ pub trait Recent {
         false
     }
 
-    /// Prefetches the entries of keys: writes a hint of each key's entry, [`Hint::none`] if there is no such entry. It is worth its time if
-    /// [`Recent::prefetches`]. A container without slots leaves the hints as they are. The returned byte is made of what was read, and only
-    /// keeps the loads alive.
+    /// Prefetches the entries of keys: writes a hint for each key. A hint may be wrong, and [`Hint::none`] says that no slot was found. It is
+    /// worth its time if [`Recent::prefetches`]. A container without slots leaves the hints as they are. The returned byte is made of what
+    /// was read, and only keeps the loads alive.
     fn prefetch(&self, _keys: &[&[u8]], _hints: &mut [Hint]) -> u8 {
         0
     }

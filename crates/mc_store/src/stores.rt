@@ -10,8 +10,8 @@ use mc_text::Key;
 
 /// The items of a cache, at most one under each key, most recent first.
 ///
-/// A key is looked up by its bytes. A call that looks one up takes a hint of its item's slot ([`Hint`]), which affects only the speed. Only
-/// [`Store::put_front`] takes memory.
+/// A key is looked up by its bytes. Most calls that look one up take a hint of its item's slot ([`Hint`]), which affects only the speed.
+/// Only [`Store::put_front`] takes memory.
 pub trait Store {
     /// The keys and bodies, most recent first.
     ghost items: { Self → Items };
@@ -42,7 +42,7 @@ pub trait Store {
     /// Returns the body under the key, and a hint of its item's slot. The order stays.
     ///
     /// The hint is right until an item is inserted, replaced or removed. Calls other than [`Store::peek`], [`Store::find`] and
-    /// [`Store::prefetch`] also end it, if their key is not stored. Each of these may move items.
+    /// [`Store::prefetch`] also end it, if their key is not stored. Those calls may move items.
     fn find(&self, key: &[u8], hint: Hint) -> Option<(Hint, &Body)>
         ensures { option_map (λ found. found.1.now) result ≡ body_at key.now (items self.now) };
 
@@ -61,9 +61,9 @@ pub trait Store {
         false
     }
 
-    /// Prefetches the items of keys: writes a hint of each key's item, [`Hint::none`] if there is no such item. It is worth its time if
-    /// [`Store::prefetches`]. A store without slots leaves the hints as they are. The returned byte is made of what was read, and only keeps
-    /// the loads alive.
+    /// Prefetches the items of keys: writes a hint for each key. A hint may be wrong, and [`Hint::none`] says that no slot was found. It is
+    /// worth its time if [`Store::prefetches`]. A store without slots leaves the hints as they are. The returned byte is made of what was
+    /// read, and only keeps the loads alive.
     fn prefetch(&self, _keys: &[&[u8]], _hints: &mut [Hint]) -> u8 {
         0
     }

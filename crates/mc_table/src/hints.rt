@@ -1,6 +1,6 @@
 //! Slot hints.
 
-/// A slot hint: where an item was last seen. That slot is compared first, so a right hint saves the search. A wrong one costs a
+/// A slot hint: a guess of the slot of a key's entry. That slot is compared first, so a right hint saves the search. A wrong one costs a
 /// comparison. No contract speaks of hints, since they affect only the speed.
 #[derive(Clone, Copy, PartialEq, Eq)]
 pub struct Hint {

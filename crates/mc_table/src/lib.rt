@@ -3,8 +3,8 @@
 //! A [`Table`] finds an entry by its key's hash, and knows which one was used most recently. [`Table::put`] and [`Table::put_front`] insert an entry
 //! in front. [`Table::find`] and [`Table::peek_mru`] read one, and [`Table::get_mut`] brings one to the front to change it. [`Table::pop_entry`],
 //! [`Table::pop_mru`] and [`Table::pop_lru`] remove one, and [`Table::clear`] removes all. Contracts say what each call leaves by the entries, most
-//! recent first, in std's words of a map and those of `specs/Tables.antt`. A call that looks a key up takes a slot hint ([`Hint`]). A caller that
-//! looks the key up again has one from [`Table::find`], and a caller that will look several keys up gets theirs by prefetching them
+//! recent first, in std's words of a map and those of `specs/Tables.antt`. Most calls that look a key up take a slot hint ([`Hint`]). A caller
+//! that looks the key up again has one from [`Table::find`], and a caller that will look several keys up gets theirs by prefetching them
 //! ([`Table::prefetch`]).
 //!
 //! The entries are in one vector (`hash_indexes.rt`), and each is in the chain of its hash's bucket (`chains.rt`). The last entry takes the place of

@@ -1,4 +1,4 @@
-//! Orders: places in the order of their last use.
+//! Places in the order of their last use.
 ghost use Rattle.std.specs.Prelude.{◌≡◌, ◌<◌, ◌≤◌, ◌+◌, ◌-◌, ◌^◌, ◌∷◌, [], suc, length, take, IfOk, OnOk, OnErr};
 ghost use Rattle.mc_table.specs.Places.{first_of, last_of, left_out, renumbered, AreAll};
 ghost use Rattle.mc_table.specs.Rings.{link_at, joined, unlinked, linked_before, places_of, IsRing};
@@ -12,7 +12,7 @@ use std::marker::Model;
 /// Contracts see the places. Each call takes the same time for any number of places. A place takes 8 bytes.
 #[derive(Drop)]
 pub struct LruList {
-    /// The link of each place. The link of place 0 leads to the first and to the last.
+    /// The node of each place. That of place 0 leads to the first and to the last.
     links: Vec<LruNode>,
 }
 
@@ -28,7 +28,7 @@ impl Model for LruList {
 }
 
 impl LruList {
-    /// Makes an order of no place, with room for `places`.
+    /// Makes a list of no place, with room for `places`.
     pub fn with_capacity(alloc: Global, places: usize) -> Result<LruList, AllocError>
         ensures { IfOk result (λ order. order ≡ []) }
     {

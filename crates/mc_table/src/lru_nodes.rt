@@ -1,4 +1,4 @@
-//! Links: the places before and after a place.
+//! The nodes of a list of places.
 
 /// The places before and after a place, in a ring of places.
 #[derive(Clone, Copy)]

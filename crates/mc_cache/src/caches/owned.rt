@@ -1,4 +1,4 @@
-//! Commands whose key and block are owned: the public form. A server executes borrowed ones, and a block is copied as it is stored.
+//! Commands whose key and block are owned. A server executes borrowed ones, and those of large sets by [`Cache::set`].
 ghost use Rattle.std.specs.Prelude.{◌≡◌, ◌<◌, ◌^◌, ℕ, List, true};
 ghost use Rattle.mc_request.specs.declared.parts.Atom.TheVariants.{Update as AnUpdate, Meta as AMeta};
 ghost use Rattle.mc_reply.specs.Replies.{filled};
