@@ -15,7 +15,7 @@ use Rattle.mc_registers.specs.Registers.{Done}
 use Rattle.mc_registers.specs.Records.{RecordEach, Records, on_key}
 use Rattle.mc_world.specs.Logs.{Log, in_life, taken_before}
 use Rattle.mc_world.proofs.Log.LifeLemmas.{IsOfLife, got_in_life}
-use Rattle.mc_world.proofs.Site.SiteLemmas.{get_past}
+use Rattle.mc_world.proofs.SiteEvents.SiteLemmas.{get_past}
 use Rattle.mc_linearizable.specs.Linearizable.{Executed, IsLinearizable}
 use Rattle.mc_linearizable.specs.Clients.{AreRecorded, AreRising, HasRun, IsAmong, IsInLife}
 

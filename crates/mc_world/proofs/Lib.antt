@@ -1,5 +1,5 @@
-pub mod Site
-pub mod Pool
+pub mod SiteEvents
+pub mod PoolEvents
 pub mod Log
 pub mod Course
 pub mod Drain

@@ -19,7 +19,7 @@ use Rattle.mc_world.specs.declared.logs.Logged.{Logged}
 use Rattle.mc_world.specs.declared.logs.Logged.TheVariants.{Happened, Joined}
 use Rattle.mc_world.proofs.Log.EntryLemmas.{got_inside, got_pushed}
 use Rattle.mc_world.proofs.Log.LogLemmas.{number-push, stays_up}
-use Rattle.mc_world.proofs.Pool.PoolLemmas.{set_site}
+use Rattle.mc_world.proofs.PoolEvents.PoolLemmas.{set_site}
 
 -- servers that have admitted as many connections as those before them at their places
 abbrev AdmitAs : PoolState → PoolState → Type 0

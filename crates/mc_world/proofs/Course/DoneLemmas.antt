@@ -40,7 +40,7 @@ use Rattle.mc_world.proofs.Log.LifeLemmas.{lives_stay}
 use Rattle.mc_world.proofs.Log.HoldsLemmas.{log_client_goes, log_client_takes, log_end_seen, log_hears, log_late_bytes, log_loses, log_reaches_proxy, log_reaches_server, log_returns, log_takes_reply}
 use Rattle.mc_world.proofs.Log.TurnLemmas.{log_late_turn, log_puts, log_server_takes, log_takes}
 use Rattle.mc_world.proofs.Course.OutputLemmas.{sent_admitted, unsent, unsent_gone, unsent_kept, unsent_lost, unsent_noted, unsent_other, unsent_own, unsent_sent, unsent_sent_other, without_updated}
-use Rattle.mc_world.proofs.Pool.PoolLemmas.{pool_client_goes, pool_client_takes, pool_end_seen, pool_hears, pool_late_bytes, pool_late_turn, pool_loses, pool_puts, pool_reaches_proxy, pool_reaches_server, pool_returns, pool_server_takes, pool_takes, pool_takes_reply}
+use Rattle.mc_world.proofs.PoolEvents.PoolLemmas.{pool_client_goes, pool_client_takes, pool_end_seen, pool_hears, pool_late_bytes, pool_late_turn, pool_loses, pool_puts, pool_reaches_proxy, pool_reaches_server, pool_returns, pool_server_takes, pool_takes, pool_takes_reply}
 
 -- a course holds by functions that are equal at each number
 pub stood_as : (ring : RingState) (opening : CacheState) (order : Order) (lanes : ℕ → Lane) (new : CourseState) (texts sent outs : ℕ → List ℕ)

@@ -22,11 +22,11 @@ use Rattle.mc_world.specs.WorldState.{PoolState, SiteState, StaleState}
 use Rattle.mc_world.specs.Worlds.{first_site}
 use Rattle.mc_world.specs.declared.events.Event.{Event}
 use Rattle.mc_world.specs.declared.events.Event.TheVariants.{ClientBytes, ClientGone, ClientTakes, Emit, LinkBack, LinkLost, ProxyTurn, ReplyTurn, ServerSeesEnd, ServerTurn, ToProxy, ToServer}
-use Rattle.mc_world.proofs.Site.LateLemmas.{get_removed, get_set, shift, shift_rises}
+use Rattle.mc_world.proofs.SiteEvents.LateLemmas.{get_removed, get_set, shift, shift_rises}
 use Rattle.mc_world.proofs.Log.EntryLemmas.{got_inside}
-use Rattle.mc_world.proofs.Site.LossLemmas.{get_pushed}
-use Rattle.mc_world.proofs.Pool.PoolLemmas.{links_sent, set_site}
-use Rattle.mc_world.proofs.Site.SiteLemmas.{get_none}
+use Rattle.mc_world.proofs.SiteEvents.LossLemmas.{get_pushed}
+use Rattle.mc_world.proofs.PoolEvents.PoolLemmas.{links_sent, set_site}
+use Rattle.mc_world.proofs.SiteEvents.SiteLemmas.{get_none}
 
 -- links that are up, and of the same generations, as others are, by place
 abbrev SameGenerations : List LinkState → List LinkState → Type 0

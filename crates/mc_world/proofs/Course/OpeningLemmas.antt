@@ -8,8 +8,8 @@ use Rattle.mc_proxy.specs.ProxyState.{ProxyState}
 use Rattle.mc_world.specs.Logs.{Log}
 use Rattle.mc_world.specs.WorldState.{PoolState, SiteState}
 use Rattle.mc_world.specs.Worlds.{ClientState, CourseState, WorldState, first_site, nobody, opening_proxy, world_opened}
-use Rattle.mc_world.proofs.Pool.AppliesLemmas.{pool_of}
-use Rattle.mc_world.proofs.Site.WayLemmas.{course_of}
+use Rattle.mc_world.proofs.PoolEvents.AppliesLemmas.{pool_of}
+use Rattle.mc_world.proofs.SiteEvents.WayLemmas.{course_of}
 
 -- the course, from its parts
 pub opened_as : (losses : Losses) (ring : RingState) (clients budget items stores : ℕ) (pool : PoolState) (proxy : ProxyState) (sites : List SiteState) (list : List ClientState) (log : Log)

@@ -22,7 +22,7 @@ use Rattle.mc_world.specs.WorldState.{PoolState, SiteState, begun_of, histories_
 use Rattle.mc_world.specs.Worlds.{CourseState, put_out_of, taken_by, text_of}
 use Rattle.mc_world.specs.declared.logs.Logged.{Logged}
 use Rattle.mc_world.specs.declared.logs.Logged.TheVariants.{Restarted}
-use Rattle.mc_world.proofs.Pool.CommandLemmas.{commands_accounted}
+use Rattle.mc_world.proofs.PoolEvents.CommandLemmas.{commands_accounted}
 use Rattle.mc_world.proofs.Course.DoneLemmas.{course_done, same_clients}
 use Rattle.mc_world.proofs.Course.GenerationStayLemmas.{generations_restart}
 use Rattle.mc_world.proofs.Log.LifeLemmas.{life_stays, sizes_of, taken_stays}
@@ -33,8 +33,8 @@ use Rattle.mc_world.proofs.Log.LogLemmas.{before-last, number-none, number-one, 
 use Rattle.mc_world.proofs.Log.OutcomeLemmas.{goes_same}
 use Rattle.mc_world.proofs.Log.RequestLemmas.{answers_go, requests_go}
 use Rattle.mc_world.proofs.Course.OutputLemmas.{unsent}
-use Rattle.mc_world.proofs.Pool.PoolLemmas.{pool_restarts, set_site}
-use Rattle.mc_world.proofs.Site.SiteLemmas.{get_none}
+use Rattle.mc_world.proofs.PoolEvents.PoolLemmas.{pool_restarts, set_site}
+use Rattle.mc_world.proofs.SiteEvents.SiteLemmas.{get_none}
 
 -- as many sites, with the same histories
 as_many_sites : (place : ℕ) (opening : CacheState) (old new : PoolState) → ServerRestarts place opening old new → length new.sites ≡ length old.sites

@@ -20,7 +20,7 @@ use Rattle.mc_world.proofs.Course.DoneLemmas.{course_done, is_there}
 use Rattle.mc_world.proofs.Course.JoinLemmas.{course_joins}
 use Rattle.mc_world.proofs.Course.RestartLemmas.{course_restarts}
 use Rattle.mc_world.proofs.Course.RunLemmas.{course_accounts}
-use Rattle.mc_world.proofs.Site.ServingLemmas.{pool_serves}
+use Rattle.mc_world.proofs.SiteEvents.ServingLemmas.{pool_serves}
 use Rattle.mc_world.proofs.Course.WorldOpeningLemmas.{course_opens}
 
 -- one more event was tried

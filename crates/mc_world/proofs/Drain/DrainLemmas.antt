@@ -22,7 +22,7 @@ use Rattle.mc_world.specs.declared.errors.Step.TheVariants.{Done}
 use Rattle.mc_world.specs.declared.events.Event.{Event}
 use Rattle.mc_world.proofs.Drain.LessLemmas.{ended_less, late_less, put_out_less, reached_less, replied_less, returned_less, served_less, taken_less, took_less}
 use Rattle.mc_world.proofs.Log.EntryLemmas.{got_inside}
-use Rattle.mc_world.proofs.Site.ServingLemmas.{pool_serves}
+use Rattle.mc_world.proofs.SiteEvents.ServingLemmas.{pool_serves}
 
 -- each server has a link
 linked : (ring : RingState) (opening : CacheState) (c : CourseState) → CourseHolds ring opening c → (place : ℕ) (site : SiteState) → slice_get c.pool.sites place ≡ Some site

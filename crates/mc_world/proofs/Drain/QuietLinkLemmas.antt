@@ -18,7 +18,7 @@ use Rattle.mc_history.specs.Made.{Made, commands_on, made_on, read_as, replies_o
 use Rattle.mc_history.proofs.GenerationLemmas.{carried}
 use Rattle.mc_world.specs.Sites.{SiteHolds}
 use Rattle.mc_world.specs.WorldState.{SiteState}
-use Rattle.mc_world.proofs.Site.SiteLemmas.{joined}
+use Rattle.mc_world.proofs.SiteEvents.SiteLemmas.{joined}
 
 -- if no byte can be moved there is none
 pub none_left : (xs : List ℕ) → ((0 < 1) × (0 < length xs) → ⊥) → xs ≡ []

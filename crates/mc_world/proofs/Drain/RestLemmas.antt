@@ -27,7 +27,7 @@ use Rattle.mc_world.specs.declared.logs.Logged.TheVariants.{Happened}
 use Rattle.mc_world.proofs.Course.DoneLemmas.{is_there}
 use Rattle.mc_world.proofs.Log.EntryLemmas.{got_inside}
 use Rattle.mc_world.proofs.Drain.QuietLemmas.{course_quiet}
-use Rattle.mc_world.proofs.Site.SiteLemmas.{get_none}
+use Rattle.mc_world.proofs.SiteEvents.SiteLemmas.{get_none}
 
 -- if a link is up, its generation is alive
 own_lives : (pool : PoolState) (place : ℕ) (site : SiteState) → slice_get pool.sites place ≡ Some site → IsUp place pool → Lives place (generation_of (slice_get pool.sites place)) pool

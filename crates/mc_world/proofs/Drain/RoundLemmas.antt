@@ -13,9 +13,9 @@ use Rattle.mc_world.specs.declared.acts.Act.TheVariants.{SeeEnd}
 use Rattle.mc_world.specs.declared.events.Event.{Event}
 use Rattle.mc_world.specs.declared.events.Event.TheVariants.{ClientBytes, ClientGone, ClientTakes, Emit, LinkBack, LinkLost, ProxyTurn, ReplyTurn, ServerSeesEnd, ServerTurn, ToProxy, ToServer}
 use Rattle.mc_world.proofs.Log.EntryLemmas.{got_inside}
-use Rattle.mc_world.proofs.Pool.PoolLemmas.{set_site}
+use Rattle.mc_world.proofs.PoolEvents.PoolLemmas.{set_site}
 use Rattle.mc_world.proofs.Drain.RestLemmas.{first_lost}
-use Rattle.mc_world.proofs.Site.SiteLemmas.{get_none}
+use Rattle.mc_world.proofs.SiteEvents.SiteLemmas.{get_none}
 
 -- this was done a number of times
 abbrev pub Times : (CourseState → CourseState → Type 0) → CourseState → CourseState → Type 0

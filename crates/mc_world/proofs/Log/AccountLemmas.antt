@@ -24,7 +24,7 @@ use Rattle.mc_world.specs.LogHolds.{AreOrdered, IsFresh, IsPlaced, LogHolds}
 use Rattle.mc_world.specs.Logs.{Log, before, number_of, puts, serves}
 use Rattle.mc_world.specs.Pools.{PoolHolds}
 use Rattle.mc_world.specs.WorldState.{PoolState, StaleState, histories_of}
-use Rattle.mc_world.proofs.Pool.CommandLemmas.{commands_accounted}
+use Rattle.mc_world.proofs.PoolEvents.CommandLemmas.{commands_accounted}
 use Rattle.mc_world.proofs.Log.FollowLemmas.{followed}
 use Rattle.mc_world.proofs.Log.LifeLemmas.{lives_legal}
 use Rattle.mc_world.proofs.Log.EntryLemmas.{got_some, history_at}

@@ -36,8 +36,8 @@ use Rattle.mc_world.specs.Logs.{Log, loses, number_of}
 use Rattle.mc_world.specs.Pools.{PoolHolds}
 use Rattle.mc_world.specs.Sites.{SiteHolds}
 use Rattle.mc_world.specs.WorldState.{PoolState, SiteState, begun_of, histories_of}
-use Rattle.mc_world.proofs.Pool.CommandLemmas.{times-one, times_is_count}
-use Rattle.mc_world.proofs.Site.CountLemmas.{times-tags}
+use Rattle.mc_world.proofs.PoolEvents.CommandLemmas.{times-one, times_is_count}
+use Rattle.mc_world.proofs.SiteEvents.CountLemmas.{times-tags}
 use Rattle.mc_world.proofs.Log.EntryLemmas.{begun_at, got_map, got_some, got_there, history_at}
 use Rattle.mc_world.proofs.Log.LogLemmas.{number-before, stays_up}
 use Rattle.mc_world.proofs.Log.LivingLemmas.{commands_split, made_of_entry}

@@ -23,7 +23,7 @@ use Rattle.mc_world.specs.declared.logs.Logged.{Logged}
 use Rattle.mc_world.specs.declared.logs.Logged.TheVariants.{Happened}
 use Rattle.mc_world.proofs.Log.GoingLemmas.{GoOn, lives_go}
 use Rattle.mc_world.proofs.Log.HistoryLemmas.{as_many}
-use Rattle.mc_world.proofs.Site.SiteLemmas.{get_past}
+use Rattle.mc_world.proofs.SiteEvents.SiteLemmas.{get_past}
 use Rattle.mc_world.proofs.Log.LogLemmas.{before-past, before-stays, number-before, number-none, number-push}
 
 -- entries that are legal by an order are legal by one that goes on from it

@@ -20,9 +20,9 @@ use Rattle.mc_history.specs.declared.entries.Entry.{Entry}
 use Rattle.mc_history.proofs.OutcomeLemmas.{named_made}
 use Rattle.mc_world.specs.Sites.{SiteHolds}
 use Rattle.mc_world.specs.WorldState.{SiteState}
-use Rattle.mc_world.proofs.Pool.CommandLemmas.{times-one, times_is_count}
+use Rattle.mc_world.proofs.PoolEvents.CommandLemmas.{times-one, times_is_count}
 use Rattle.mc_world.proofs.Log.EntryLemmas.{got_map, got_mapped}
-use Rattle.mc_world.proofs.Site.SiteLemmas.{at_place}
+use Rattle.mc_world.proofs.SiteEvents.SiteLemmas.{at_place}
 
 -- the command of which an entry of a history was made
 pub record IsMadeOf (place : ℕ) (order : Order) (made : List Made) (j : ℕ) (d : Entry) : Type 0 where

@@ -43,7 +43,7 @@ use Rattle.mc_world.proofs.Log.ServerLemmas.{AreAlike, servers_stay}
 use Rattle.mc_world.proofs.Log.StillLemmas.{open_as_many}
 use Rattle.mc_world.proofs.Log.TakenLemmas.{commands_take, lost_pushed}
 use Rattle.mc_world.proofs.Log.WaitingLemmas.{waits_at}
-use Rattle.mc_world.proofs.Site.SiteLemmas.{same_tag, takes_next, waits_next}
+use Rattle.mc_world.proofs.SiteEvents.SiteLemmas.{same_tag, takes_next, waits_next}
 
 -- Emit
 pub log_puts : (opening : RingState) (texts sent : ℕ → List ℕ) (order : Order) (lanes : ℕ → Lane) (outs outs' : ℕ → List ℕ) (log : Log) (client : ℕ) (old new : PoolState)

@@ -30,7 +30,7 @@ use Rattle.mc_world.proofs.Log.CommandLemmas.{News, command_taken, commands_go, 
 use Rattle.mc_world.proofs.Log.EntryLemmas.{HasUntaken, HasUntakenAt, got_mapped, got_pushed, history_still, untaken_set}
 use Rattle.mc_world.proofs.Log.LogLemmas.{before-last, number-one}
 use Rattle.mc_world.proofs.Log.OutcomeLemmas.{all_back, all_lost, goes_note_all}
-use Rattle.mc_world.proofs.Site.SiteLemmas.{get_past}
+use Rattle.mc_world.proofs.SiteEvents.SiteLemmas.{get_past}
 
 -- the tags of the pending commands on the link of a place
 abbrev pub tags_waiting : ProxyState → ℕ → List Tag

@@ -1,6 +1,6 @@
 use Rattle.std.proofs.Common.{rules, ◌≡◌, ◌++◌, ◌∷◌, [], None, Some}
 use Rattle.mc_proxy.specs.SessionState.{link_at}
-use Rattle.mc_world.proofs.Site.TagLemmas.{no_more, one_more, tag_at}
+use Rattle.mc_world.proofs.SiteEvents.TagLemmas.{no_more, one_more, tag_at}
 use Rattle.mc_world.proofs.stale_connections.tags_from.Goals.{in-Some+in_ok-push_back, in_default}
 use Rattle.mc_world.proofs.stale_connections.tags_from.Goals as goal
 

@@ -1,6 +1,6 @@
 use Rattle.std.proofs.Common.{◌≡◌, ◌++◌, drop}
 use Rattle.mc_proxy.specs.SessionState.{link_at}
-use Rattle.mc_world.proofs.Site.TagLemmas.{tags_in}
+use Rattle.mc_world.proofs.SiteEvents.TagLemmas.{tags_in}
 use Rattle.mc_world.proofs.stale_connections.tags_from.Given as goal
 
 -- those so far and the remaining ones are all from the first on

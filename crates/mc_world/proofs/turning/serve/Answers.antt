@@ -3,7 +3,7 @@ use Rattle.mc_server.specs.ServerState.{connection_at, output_of}
 use Rattle.mc_server.specs.declared.turns.Turn.{Turn}
 use Rattle.mc_server.specs.declared.turns.Turn.TheVariants.{Took}
 use Rattle.mc_server.specs.Turns.{IsTurn, Steps}
-use Rattle.mc_world.proofs.Site.TurnLemmas.{entered, output_grows}
+use Rattle.mc_world.proofs.SiteEvents.TurnLemmas.{entered, output_grows}
 use Rattle.mc_world.proofs.turning.serve.Goals as goal
 
 pub split_at-requires : goal.split_at-requires

@@ -1,4 +1,4 @@
-use Rattle.mc_world.proofs.Site.ServingLemmas.{pool_serves}
+use Rattle.mc_world.proofs.SiteEvents.ServingLemmas.{pool_serves}
 use Rattle.mc_world.proofs.world_laws.courses_serve.Goals as goal
 
 pub returns : goal.returns

@@ -1,6 +1,6 @@
 use Rattle.std.proofs.Common.{refl}
 use Rattle.mc_world.specs.declared.events.Event.TheVariants.{ServerSeesEnd}
-use Rattle.mc_world.proofs.Site.WayLemmas.{done_as, happened, rested}
+use Rattle.mc_world.proofs.SiteEvents.WayLemmas.{done_as, happened, rested}
 use Rattle.mc_world.proofs.courses.Course.happen.Goals as goal
 
 -- each event applies if its call does something

@@ -1,7 +1,7 @@
 use Rattle.std.proofs.Common.{inr, ap}
 use Rattle.mc_world.specs.Applies.{Lives}
 use Rattle.mc_world.specs.WorldState.{PoolState}
-use Rattle.mc_world.proofs.Site.WayLemmas.{applies_as, by_late, course_of, living_bytes, lost_bytes, told_as}
+use Rattle.mc_world.proofs.SiteEvents.WayLemmas.{applies_as, by_late, course_of, living_bytes, lost_bytes, told_as}
 use Rattle.mc_world.proofs.courses.Course.reach_server.Goals as goal
 
 -- bytes of the living generation

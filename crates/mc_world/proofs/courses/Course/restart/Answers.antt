@@ -2,8 +2,8 @@ use Rattle.std.proofs.Common.{rules, ◌≡◌, List, [], ◌∷◌, ◌++◌, l
 use Rattle.mc_world.specs.declared.events.Event.TheVariants.{LinkLost}
 use Rattle.mc_world.specs.WorldState.{SiteState}
 use Rattle.mc_world.specs.declared.logs.Logged.TheVariants.{Happened, Restarted}
-use Rattle.mc_world.proofs.Pool.ApplyingLemmas.{refused_inside, refused_past}
-use Rattle.mc_world.proofs.Site.WayLemmas.{cut_as_many, down_and_restarted, lost_and_restarted}
+use Rattle.mc_world.proofs.PoolEvents.ApplyingLemmas.{refused_inside, refused_past}
+use Rattle.mc_world.proofs.SiteEvents.WayLemmas.{cut_as_many, down_and_restarted, lost_and_restarted}
 use Rattle.mc_world.proofs.courses.Course.restart.Goals as goal
 use Rattle.mc_world.proofs.courses.Course.restart.Goals.{in-Done, in_default-step}
 

@@ -1,7 +1,7 @@
 use Rattle.std.proofs.Common.{◌<◌, ◌^◌, inr, ap, arith}
 use Rattle.mc_world.specs.Applies.{Lives}
 use Rattle.mc_world.specs.WorldState.{PoolState}
-use Rattle.mc_world.proofs.Site.WayLemmas.{applies_as, by_late, course_of, living_turn, lost_turn, told_as}
+use Rattle.mc_world.proofs.SiteEvents.WayLemmas.{applies_as, by_late, course_of, living_turn, lost_turn, told_as}
 use Rattle.mc_world.proofs.courses.Course.serve.Goals as goal
 
 -- a request of the living generation

@@ -6,8 +6,8 @@ use Rattle.mc_proxy.specs.SessionState.{link_at}
 use Rattle.mc_world.specs.Applies.{CanAdmit}
 use Rattle.mc_world.specs.Serving.{PoolServes}
 use Rattle.mc_world.specs.WorldState.{SiteState}
-use Rattle.mc_world.proofs.Pool.AppliesLemmas.{can_return, none_left, pool_of, up_stays}
-use Rattle.mc_world.proofs.Pool.ApplyingLemmas.{never, returns_if}
+use Rattle.mc_world.proofs.PoolEvents.AppliesLemmas.{can_return, none_left, pool_of, up_stays}
+use Rattle.mc_world.proofs.PoolEvents.ApplyingLemmas.{never, returns_if}
 use Rattle.mc_world.proofs.pools.Pool.can_return.Goals as goal
 
 -- the link is up

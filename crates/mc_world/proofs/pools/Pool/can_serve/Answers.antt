@@ -2,8 +2,8 @@ use Rattle.std.proofs.Common.{rules, ◌≡◌, ◌∙◌, ◌<◌, false, List,
 use Rattle.std.proofs.lemmas.Option.{slice_get_past, slice_get_read}
 use Rattle.mc_world.specs.Applies.{CanServeLate, Lives, way_of}
 use Rattle.mc_world.specs.WorldState.{SiteState, StaleState}
-use Rattle.mc_world.proofs.Pool.AppliesLemmas.{found_way, pool_of}
-use Rattle.mc_world.proofs.Pool.ApplyingLemmas.{by_late, by_living, by_nowhere, lost_no_way, never, not_so, serves_living, serves_lost}
+use Rattle.mc_world.proofs.PoolEvents.AppliesLemmas.{found_way, pool_of}
+use Rattle.mc_world.proofs.PoolEvents.ApplyingLemmas.{by_late, by_living, by_nowhere, lost_no_way, never, not_so, serves_living, serves_lost}
 use Rattle.mc_world.proofs.pools.Pool.can_serve.Goals as goal
 
 -- no server has this place

@@ -4,8 +4,8 @@ use Rattle.std.proofs.lemmas.Option.{none-some, slice_get_past, slice_get_read}
 use Rattle.mc_server.specs.ServerState.{connection_at, output_of}
 use Rattle.mc_proxy.specs.SessionState.{link_at}
 use Rattle.mc_world.specs.WorldState.{SiteState}
-use Rattle.mc_world.proofs.Pool.AppliesLemmas.{pool_of}
-use Rattle.mc_world.proofs.Pool.ApplyingLemmas.{comes_if, never, some_if}
+use Rattle.mc_world.proofs.PoolEvents.AppliesLemmas.{pool_of}
+use Rattle.mc_world.proofs.PoolEvents.ApplyingLemmas.{comes_if, never, some_if}
 use Rattle.mc_world.proofs.pools.Pool.comes_back.Goals as goal
 
 -- no server has this place

@@ -1,8 +1,8 @@
 use Rattle.std.proofs.Common.{◌≡◌, ◌∙◌, List, Some, None, slice_get, refl, sym, ap}
 use Rattle.std.proofs.lemmas.Option.{slice_get_past, slice_get_read}
 use Rattle.mc_world.specs.WorldState.{SiteState}
-use Rattle.mc_world.proofs.Pool.AppliesLemmas.{pool_of}
-use Rattle.mc_world.proofs.Pool.ApplyingLemmas.{lost_if, lost_nowhere, never}
+use Rattle.mc_world.proofs.PoolEvents.AppliesLemmas.{pool_of}
+use Rattle.mc_world.proofs.PoolEvents.ApplyingLemmas.{lost_if, lost_nowhere, never}
 use Rattle.mc_world.proofs.pools.Pool.has_lost.Goals as goal
 
 pub returns-in-Some : goal.returns-in-Some

@@ -2,7 +2,7 @@ use Rattle.std.proofs.Common.{◌≡◌, ◌∙◌, List, Some, None, slice_get,
 use Rattle.std.proofs.lemmas.Option.{slice_get_read}
 use Rattle.mc_world.specs.WorldState.{SiteState}
 use Rattle.std.proofs.lemmas.Option.{slice_get_past}
-use Rattle.mc_world.proofs.Pool.AppliesLemmas.{history_here, history_nowhere}
+use Rattle.mc_world.proofs.PoolEvents.AppliesLemmas.{history_here, history_nowhere}
 use Rattle.mc_world.proofs.pools.Pool.history.Goals as goal
 
 pub returns-in-Some : goal.returns-in-Some

@@ -3,8 +3,8 @@ use Rattle.std.specs.Prelude.{◌↔◌, IsTrue, not}
 use Rattle.std.proofs.lemmas.Option.{slice_get_past, slice_get_read}
 use Rattle.mc_world.specs.Applies.{CanReachLate, Lives, way_of}
 use Rattle.mc_world.specs.WorldState.{SiteState, StaleState}
-use Rattle.mc_world.proofs.Pool.AppliesLemmas.{found_way, pool_of}
-use Rattle.mc_world.proofs.Pool.ApplyingLemmas.{by_late, by_nowhere, lost_no_way, never, not_so, reaches_lost, some_if}
+use Rattle.mc_world.proofs.PoolEvents.AppliesLemmas.{found_way, pool_of}
+use Rattle.mc_world.proofs.PoolEvents.ApplyingLemmas.{by_late, by_nowhere, lost_no_way, never, not_so, reaches_lost, some_if}
 use Rattle.mc_world.proofs.pools.Pool.is_on_its_way.Goals as goal
 
 -- no server has this place

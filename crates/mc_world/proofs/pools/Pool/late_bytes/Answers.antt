@@ -2,7 +2,7 @@ use Rattle.std.proofs.Common.{rules, ◌≡◌, ◌∙◌, ◌<◌, ℕ, List, S
 use Rattle.std.proofs.lemmas.Option.{same_Some, slice_get_read}
 use Rattle.mc_world.specs.WorldState.{StaleState}
 use Rattle.mc_world.specs.Applies.{way_of}
-use Rattle.mc_world.proofs.Pool.AppliesLemmas.{at_error, found_way, it_applies, reached_late}
+use Rattle.mc_world.proofs.PoolEvents.AppliesLemmas.{at_error, found_way, it_applies, reached_late}
 use Rattle.mc_world.proofs.pools.Pool.late_bytes.Goals as goal
 
 pub arrive_late-requires : goal.arrive_late-requires

@@ -4,7 +4,7 @@ use Rattle.mc_world.specs.Serving.{PoolServes}
 use Rattle.mc_world.specs.Applies.{way_of}
 use Rattle.mc_world.specs.Happens.{Does, EntersLate}
 use Rattle.mc_world.specs.declared.errors.Step.{Step}
-use Rattle.mc_world.proofs.Pool.AppliesLemmas.{at_error, found_way, it_applies, it_does_not, late_serves_if, pool_of, served_late}
+use Rattle.mc_world.proofs.PoolEvents.AppliesLemmas.{at_error, found_way, it_applies, it_does_not, late_serves_if, pool_of, served_late}
 use Rattle.mc_world.proofs.pools.Pool.late_turn.Goals as goal
 
 pub turn_late-requires-clause-inside : goal.turn_late-requires-clause-inside

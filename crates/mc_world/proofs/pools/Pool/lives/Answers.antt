@@ -3,7 +3,7 @@ use Rattle.std.proofs.lemmas.Option.{slice_get_read}
 use Rattle.mc_proxy.specs.SessionState.{link_at}
 use Rattle.mc_world.specs.WorldState.{SiteState}
 use Rattle.std.proofs.lemmas.Option.{slice_get_past}
-use Rattle.mc_world.proofs.Pool.AppliesLemmas.{lives_by, lives_nowhere, pool_of}
+use Rattle.mc_world.proofs.PoolEvents.AppliesLemmas.{lives_by, lives_nowhere, pool_of}
 use Rattle.mc_world.proofs.pools.Pool.lives.Goals as goal
 
 pub returns-in-Some : goal.returns-in-Some

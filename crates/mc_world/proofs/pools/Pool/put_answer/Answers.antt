@@ -1,4 +1,4 @@
-use Rattle.mc_world.proofs.Pool.StillLemmas.{emit_still, same_pool}
+use Rattle.mc_world.proofs.PoolEvents.StillLemmas.{emit_still, same_pool}
 use Rattle.mc_world.proofs.pools.Pool.put_answer.Goals as goal
 
 pub returns-in_default-clause-puts : goal.returns-in_default-clause-puts

@@ -1,7 +1,7 @@
 use Rattle.std.proofs.Common.{rules, ◌≡◌, true, Some, slice_get, refl, arith}
 use Rattle.std.proofs.lemmas.Option.{slice_get_read}
 use Rattle.mc_proxy.specs.SessionState.{link_at}
-use Rattle.mc_world.proofs.Pool.AppliesLemmas.{it_applies, reached_proxy}
+use Rattle.mc_world.proofs.PoolEvents.AppliesLemmas.{it_applies, reached_proxy}
 use Rattle.mc_world.proofs.pools.Pool.reach_proxy.Goals as goal
 
 pub returns-clause-reaches : goal.returns-clause-reaches

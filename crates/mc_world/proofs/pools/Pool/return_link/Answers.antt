@@ -8,7 +8,7 @@ use Rattle.mc_link.specs.LinkState.{can_come_back, up_link}
 use Rattle.mc_world.specs.Applies.{CanAdmit}
 use Rattle.mc_world.specs.Happens.{ComesBack, Does}
 use Rattle.mc_world.specs.declared.errors.Step.{Step}
-use Rattle.mc_world.proofs.Pool.AppliesLemmas.{at_error, came_back, can_return, comes_back, it_applies, it_does_not, none_left, pool_of, up_stays}
+use Rattle.mc_world.proofs.PoolEvents.AppliesLemmas.{at_error, came_back, can_return, comes_back, it_applies, it_does_not, none_left, pool_of, up_stays}
 use Rattle.mc_world.proofs.pools.Pool.return_link.Goals as goal
 
 pub returns-then-is_up-clause-applies : goal.returns-then-is_up-clause-applies

@@ -2,7 +2,7 @@ use Rattle.std.proofs.Common.{rules, ◌≡◌, ◌∙◌, Some, slice_get, refl
 use Rattle.std.proofs.lemmas.Option.{slice_get_read}
 use Rattle.mc_world.specs.Serving.{PoolServes}
 use Rattle.mc_world.specs.Applies.{way_of}
-use Rattle.mc_world.proofs.Pool.AppliesLemmas.{found_way, it_applies, pool_of, saw_end}
+use Rattle.mc_world.proofs.PoolEvents.AppliesLemmas.{found_way, it_applies, pool_of, saw_end}
 use Rattle.mc_world.proofs.pools.Pool.see_end.Goals as goal
 
 pub end-requires-clause-inside : goal.end-requires-clause-inside

@@ -4,8 +4,8 @@ use Rattle.mc_proxy.specs.SessionState.{link_at}
 use Rattle.mc_world.specs.Serving.{PoolServes}
 use Rattle.mc_world.specs.Happens.{Does, Enters}
 use Rattle.mc_world.specs.declared.errors.Step.{Step}
-use Rattle.mc_world.proofs.Pool.AppliesLemmas.{it_applies, it_does_not, pool_of, serves_if}
-use Rattle.mc_world.proofs.Site.TagLemmas.{no_tag, tag_at, tag_of_waiting}
+use Rattle.mc_world.proofs.PoolEvents.AppliesLemmas.{it_applies, it_does_not, pool_of, serves_if}
+use Rattle.mc_world.proofs.SiteEvents.TagLemmas.{no_tag, tag_at, tag_of_waiting}
 use Rattle.mc_world.proofs.pools.Pool.server_turn.Goals as goal
 
 pub returns-then-ahead-waiting-clause-applies : goal.returns-then-ahead-waiting-clause-applies

@@ -4,9 +4,9 @@ use Rattle.mc_proxy.specs.SessionState.{link_at}
 use Rattle.mc_proxy.specs.LinkTurns.{Answers, IsLinkTurn}
 use Rattle.mc_proxy.specs.declared.turns.LinkStep.{LinkStep}
 use Rattle.mc_world.specs.Serving.{PoolServes}
-use Rattle.mc_world.proofs.Pool.AppliesLemmas.{at_error, gives_up, it_does_not, not_whole, pool_of, rests, site_there}
-use Rattle.mc_world.proofs.Site.MoveLemmas.{get_some}
-use Rattle.mc_world.proofs.Pool.StillLemmas.{same_pool}
+use Rattle.mc_world.proofs.PoolEvents.AppliesLemmas.{at_error, gives_up, it_does_not, not_whole, pool_of, rests, site_there}
+use Rattle.mc_world.proofs.SiteEvents.MoveLemmas.{get_some}
+use Rattle.mc_world.proofs.PoolEvents.StillLemmas.{same_pool}
 use Rattle.mc_world.proofs.pools.Pool.take_reply.Goals as goal
 
 pub returns-in_default : goal.returns-in_default

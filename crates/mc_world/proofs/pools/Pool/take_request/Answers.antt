@@ -3,8 +3,8 @@ use Rattle.mc_proxy.specs.SessionTurns.{IsTurn}
 use Rattle.mc_proxy.specs.declared.session_turns.SessionTurn.{SessionTurn}
 use Rattle.mc_proxy.specs.declared.session_turns.SessionTurn.TheVariants as turns
 use Rattle.mc_proxy.specs.Turns.{Steps}
-use Rattle.mc_world.proofs.Pool.AppliesLemmas.{it_applies, it_does_not, not_ready, was_ready}
-use Rattle.mc_world.proofs.Pool.StillLemmas.{same_pool, turn_still}
+use Rattle.mc_world.proofs.PoolEvents.AppliesLemmas.{it_applies, it_does_not, not_ready, was_ready}
+use Rattle.mc_world.proofs.PoolEvents.StillLemmas.{same_pool, turn_still}
 use Rattle.mc_world.proofs.pools.Pool.take_request.Goals as goal
 
 pub returns-in_default : goal.returns-in_default

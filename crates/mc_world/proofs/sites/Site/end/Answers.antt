@@ -3,7 +3,7 @@ use Rattle.std.proofs.lemmas.Option.{slice_get_read}
 use Rattle.mc_server.specs.ServerState.{connection_at}
 use Rattle.mc_world.specs.Serving.{ServesProxy}
 use Rattle.mc_world.specs.WorldState.{SiteState, StaleState}
-use Rattle.mc_world.proofs.Pool.AppliesLemmas.{closes}
+use Rattle.mc_world.proofs.PoolEvents.AppliesLemmas.{closes}
 use Rattle.mc_world.proofs.sites.Site.end.Goals as goal
 
 pub unwrap-requires : goal.unwrap-requires

@@ -1,7 +1,7 @@
 use Rattle.std.proofs.Common.{◌≡◌, subst}
 use Rattle.mc_world.specs.Happens.{Does, EntersOn}
 use Rattle.mc_world.specs.declared.errors.Step.{Step}
-use Rattle.mc_world.proofs.Site.TurnLemmas.{entered_at}
+use Rattle.mc_world.proofs.SiteEvents.TurnLemmas.{entered_at}
 use Rattle.mc_world.proofs.sites.Site.turn.Goals as goal
 
 pub returns-clause-enters : goal.returns-clause-enters

@@ -6,7 +6,7 @@ use Rattle.mc_world.specs.Happens.{Does, EntersOn}
 use Rattle.mc_world.specs.WorldState.{SiteState, StaleState}
 use Rattle.mc_world.specs.declared.errors.Step.{Step}
 use Rattle.mc_world.specs.declared.errors.Step.TheVariants.{Done}
-use Rattle.mc_world.proofs.Site.TurnLemmas.{entered_late, said_of_way}
+use Rattle.mc_world.proofs.SiteEvents.TurnLemmas.{entered_late, said_of_way}
 use Rattle.mc_world.proofs.sites.Site.turn_late.Goals as goal
 
 pub returns-clause-enters : goal.returns-clause-enters

@@ -1,7 +1,7 @@
 use Rattle.std.proofs.Common.{rules, ◌≡◌, ◌||◌, true, refl}
 use Rattle.mc_world.specs.Acts.{IsIdle}
 use Rattle.mc_world.specs.Rounds.{Repeats, Then}
-use Rattle.mc_world.proofs.Pool.AppliesLemmas.{at_error}
+use Rattle.mc_world.proofs.PoolEvents.AppliesLemmas.{at_error}
 use Rattle.mc_world.proofs.Drain.DrainLemmas.{drained, drained_then, first_did, goes_both, goes_did, over_then, second_did}
 use Rattle.mc_world.proofs.Drain.RoundLemmas.{neither_did, times_more, until_over}
 use Rattle.mc_world.proofs.worlds.World.alternate.Goals as goal

@@ -3,7 +3,7 @@ use Rattle.mc_world.specs.Acts.{IsIdle}
 use Rattle.mc_world.specs.Rounds.{Alternates, InOrder}
 use Rattle.mc_world.specs.Worlds.{CourseState}
 use Rattle.mc_world.specs.declared.acts.Act.TheVariants.{PutAnswer, TakeBytes}
-use Rattle.mc_world.proofs.Pool.AppliesLemmas.{at_error}
+use Rattle.mc_world.proofs.PoolEvents.AppliesLemmas.{at_error}
 use Rattle.mc_world.proofs.Drain.DrainLemmas.{drained, drained_then, over_more}
 use Rattle.mc_world.proofs.Drain.RoundLemmas.{order_more}
 use Rattle.mc_world.proofs.worlds.World.answer_all.Goals as goal

@@ -1,7 +1,7 @@
 use Rattle.std.proofs.Common.{Bool, refl, subst}
 use Rattle.mc_world.specs.Acts.{GoesOn, IsIdle}
 use Rattle.mc_world.specs.Rounds.{IsActed}
-use Rattle.mc_world.proofs.Pool.AppliesLemmas.{at_error}
+use Rattle.mc_world.proofs.PoolEvents.AppliesLemmas.{at_error}
 use Rattle.mc_world.proofs.Drain.DrainLemmas.{drained, drained_then, goes_did}
 use Rattle.mc_world.proofs.Drain.RoundLemmas.{times_more, until_over}
 use Rattle.mc_world.proofs.worlds.World.repeat.Goals as goal

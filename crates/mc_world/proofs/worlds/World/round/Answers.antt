@@ -2,7 +2,7 @@ use Rattle.std.proofs.Common.{◌||◌}
 use Rattle.mc_world.specs.Acts.{NoClient, NoServer}
 use Rattle.mc_world.specs.Worlds.{CourseState}
 use Rattle.mc_world.specs.declared.acts.Act.TheVariants.{PutAnswer, ReachProxy, ReachServer, Serve, TakeBytes, TakeReply, TakeRequest}
-use Rattle.mc_world.proofs.Pool.AppliesLemmas.{at_error}
+use Rattle.mc_world.proofs.PoolEvents.AppliesLemmas.{at_error}
 use Rattle.mc_world.proofs.Drain.DrainLemmas.{drained, drained_then, over_then}
 use Rattle.mc_world.proofs.worlds.World.round.Goals as goal
 

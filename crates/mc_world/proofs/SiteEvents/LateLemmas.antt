@@ -31,11 +31,11 @@ use Rattle.mc_history.specs.declared.entries.Entry.{Entry}
 use Rattle.mc_world.specs.Sites.{IsLiving, IsLostWay, SiteHolds, untaken_times}
 use Rattle.mc_world.specs.WorldState.{SiteState, StaleState}
 use Rattle.mc_history.proofs.OutcomeLemmas.{replied_push}
-use Rattle.mc_world.proofs.Site.CountLemmas.{untaken-set}
+use Rattle.mc_world.proofs.SiteEvents.CountLemmas.{untaken-set}
 use Rattle.mc_history.proofs.GenerationLemmas.{reads_others}
 use Rattle.mc_history.proofs.NamedLemmas.{each_push}
 use Rattle.mc_history.proofs.MadeLemmas.{cache_of, made_push, replayed_made}
-use Rattle.mc_world.proofs.Site.SiteLemmas.{appended, commands_push_other, commands_push_own, entry_by, get_none, is_made, lost_elsewhere, lost_untouched, made_of, next_is, one_more, other_is, same_end, still_good, taking_by}
+use Rattle.mc_world.proofs.SiteEvents.SiteLemmas.{appended, commands_push_other, commands_push_own, entry_by, get_none, is_made, lost_elsewhere, lost_untouched, made_of, next_is, one_more, other_is, same_end, still_good, taking_by}
 use Rattle.mc_history.specs.Named.{IsNamed, tags_made, times}
 
 -- what is in a list after one element is replaced

@@ -31,7 +31,7 @@ use Rattle.mc_world.specs.Serving.{PoolServes, ServesProxy, SiteServes}
 use Rattle.mc_world.specs.Sites.{SiteHolds}
 use Rattle.mc_world.specs.WorldState.{SiteState, StaleState}
 use Rattle.mc_world.specs.Worlds.{CourseState}
-use Rattle.mc_world.proofs.Site.SiteLemmas.{joined, next_is}
+use Rattle.mc_world.proofs.SiteEvents.SiteLemmas.{joined, next_is}
 
 no_requests : requests_of [] ≡ []
 unfolding requests_of requests_within

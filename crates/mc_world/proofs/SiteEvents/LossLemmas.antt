@@ -22,10 +22,10 @@ use Rattle.mc_world.specs.Sites.{IsLostWay, SiteHolds}
 use Rattle.mc_world.specs.WorldState.{SiteState, StaleState}
 use Rattle.mc_history.proofs.MadeLemmas.{taken_on}
 use Rattle.mc_history.proofs.OutcomeLemmas.{NoNews, replied_kept}
-use Rattle.mc_world.proofs.Site.CountLemmas.{untaken-push}
-use Rattle.mc_world.proofs.Site.MoveLemmas.{lost_kept, made_kept}
+use Rattle.mc_world.proofs.SiteEvents.CountLemmas.{untaken-push}
+use Rattle.mc_world.proofs.SiteEvents.MoveLemmas.{lost_kept, made_kept}
 use Rattle.mc_history.proofs.NamedLemmas.{Keeps, each_back, kept_named, named_since}
-use Rattle.mc_world.proofs.Site.SiteLemmas.{get_none, good_since, tags_wait}
+use Rattle.mc_world.proofs.SiteEvents.SiteLemmas.{get_none, good_since, tags_wait}
 use Rattle.mc_history.specs.Named.{IsNamed, tags_made, tags_of, times}
 
 -- an element of a list with one more at its end

@@ -12,7 +12,7 @@ use Rattle.mc_proxy.specs.ProxyState.{ProxyState, Sessions, session_in, updated}
 use Rattle.mc_proxy.specs.Turns.{Alone, Steps}
 use Rattle.mc_proxy.proofs.NotingLemmas.{same_proxy}
 use Rattle.mc_world.specs.WorldState.{PoolState, SiteState}
-use Rattle.mc_world.proofs.Pool.AppliesLemmas.{pool_of}
+use Rattle.mc_world.proofs.PoolEvents.AppliesLemmas.{pool_of}
 
 -- a session that stays what it was
 updated-same : (number : ℕ) (s : SessionState) (sessions : Sessions) → session_in sessions number ≡ Some s → updated number s sessions ≡ sessions

@@ -14,7 +14,7 @@ use Rattle.mc_world.specs.Courses.{ByWay}
 use Rattle.mc_world.specs.Refusals.{restart_refusal_of}
 use Rattle.mc_world.specs.WorldState.{PoolState, SiteState, StaleState}
 use Rattle.mc_world.specs.declared.errors.WorldError.TheVariants.{NoServer}
-use Rattle.mc_world.proofs.Pool.AppliesLemmas.{found_way, late_serves_if, serves_if}
+use Rattle.mc_world.proofs.PoolEvents.AppliesLemmas.{found_way, late_serves_if, serves_if}
 
 -- a place without a server has lost no generation
 pub lost_nowhere : (place generation : ℕ) (pool : PoolState) → slice_get pool.sites place ≡ None → HasLost place generation pool → ⊥

@@ -21,7 +21,7 @@ use Rattle.mc_history.proofs.RefusalLemmas.{line_of_told, told_by_line}
 use Rattle.mc_world.specs.Happens.{Enters, EntersLate, EntersOn, entry_of_tag}
 use Rattle.mc_world.specs.Serving.{IsSpelled, ServesProxy}
 use Rattle.mc_world.specs.WorldState.{SiteState, StaleState}
-use Rattle.mc_world.proofs.Site.SiteLemmas.{same_end, taking_by}
+use Rattle.mc_world.proofs.SiteEvents.SiteLemmas.{same_end, taking_by}
 
 -- the output of the connection before a step, and after it
 pub output_before : (number : ℕ) (old new : ServerState) (Step : CacheState → CacheState → ConnectionState → ConnectionState → Type 0) (steps : Steps number old new Step)

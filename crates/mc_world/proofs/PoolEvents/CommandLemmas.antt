@@ -21,7 +21,7 @@ use Rattle.mc_history.specs.Made.{Each, Made, entry_of}
 use Rattle.mc_world.specs.Pools.{PoolHolds}
 use Rattle.mc_world.specs.Sites.{SiteHolds}
 use Rattle.mc_world.specs.WorldState.{PoolState, SiteState, begun_of, histories_of}
-use Rattle.mc_world.proofs.Pool.AccountLemmas.{legal_site}
+use Rattle.mc_world.proofs.PoolEvents.AccountLemmas.{legal_site}
 use Rattle.mc_account.specs.Lookups.{command_at}
 use Rattle.mc_history.specs.Named.{IsNamed, is_tag, tags_made, tags_of, times}
 

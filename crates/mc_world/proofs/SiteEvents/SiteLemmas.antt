@@ -30,7 +30,7 @@ use Rattle.mc_history.specs.Made.{Each, IsMade, Made, commands_on, entry_of, mad
 use Rattle.mc_history.specs.declared.entries.Entry.{Entry}
 use Rattle.mc_world.specs.Sites.{IsLostWay, SiteHolds}
 use Rattle.mc_world.specs.WorldState.{SiteState, StaleState}
-use Rattle.mc_world.proofs.Site.CountLemmas.{times-made}
+use Rattle.mc_world.proofs.SiteEvents.CountLemmas.{times-made}
 use Rattle.mc_history.proofs.GenerationLemmas.{carried}
 use Rattle.mc_history.proofs.OutcomeLemmas.{replied_push}
 use Rattle.mc_history.proofs.NamedLemmas.{each_back, each_push, named_since}

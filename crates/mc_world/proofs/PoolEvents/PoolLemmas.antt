@@ -31,15 +31,15 @@ use Rattle.mc_world.specs.Restarts.{ServerRestarts, restarted}
 use Rattle.mc_world.specs.Sites.{SiteHolds}
 use Rattle.mc_world.specs.WorldState.{PoolState, SiteState}
 use Rattle.mc_history.proofs.GoodLemmas.{good_in, taken_is_good}
-use Rattle.mc_world.proofs.Site.LateLemmas.{site_ended, site_late_fed, site_late_turned}
-use Rattle.mc_world.proofs.Site.LossLemmas.{site_back, site_lost, site_restarted}
-use Rattle.mc_world.proofs.Site.MoveLemmas.{site_asked, site_kept, site_replied, site_returned}
+use Rattle.mc_world.proofs.SiteEvents.LateLemmas.{site_ended, site_late_fed, site_late_turned}
+use Rattle.mc_world.proofs.SiteEvents.LossLemmas.{site_back, site_lost, site_restarted}
+use Rattle.mc_world.proofs.SiteEvents.MoveLemmas.{site_asked, site_kept, site_replied, site_returned}
 use Rattle.mc_request.specs.declared.parts.Atom.{Atom}
 use Rattle.mc_route.specs.Routes.{to_place}
 use Rattle.mc_history.proofs.OutcomeLemmas.{NoNews, command_note, news_all_lost, news_elsewhere, note_back, taken_fresh}
 use Rattle.mc_history.proofs.NamedLemmas.{Keeps, keeps_note, keeps_note_all}
-use Rattle.mc_world.proofs.Site.SiteLemmas.{site_fed, site_turned}
-use Rattle.mc_world.proofs.Site.TurnLemmas.{entered_site, late_site}
+use Rattle.mc_world.proofs.SiteEvents.SiteLemmas.{site_fed, site_turned}
+use Rattle.mc_world.proofs.SiteEvents.TurnLemmas.{entered_site, late_site}
 use Rattle.mc_account.specs.Lookups.{command_at}
 
 -- the element at a place after the site of one place is replaced

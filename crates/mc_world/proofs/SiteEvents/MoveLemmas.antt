@@ -28,10 +28,10 @@ use Rattle.mc_history.proofs.OutcomeLemmas.{NoNews, entry_made, in_made, named_m
 use Rattle.mc_world.specs.Sites.{IsLostWay, SiteHolds}
 use Rattle.mc_world.specs.WorldState.{SiteState, StaleState}
 use Rattle.mc_route.specs.Routes.{to_place}
-use Rattle.mc_world.proofs.Site.CountLemmas.{times-tags}
+use Rattle.mc_world.proofs.SiteEvents.CountLemmas.{times-tags}
 use Rattle.mc_history.proofs.GenerationLemmas.{carried}
 use Rattle.mc_history.proofs.NamedLemmas.{Keeps, each_append, each_weaker, kept_named, keeps_push, named_in}
-use Rattle.mc_world.proofs.Site.SiteLemmas.{at_place, get_past, good_since, stood_at, tags_wait}
+use Rattle.mc_world.proofs.SiteEvents.SiteLemmas.{at_place, get_past, good_since, stood_at, tags_wait}
 use Rattle.mc_account.specs.Lookups.{command_at, outcome_at}
 use Rattle.mc_history.specs.Named.{IsNamed, tags_of, times}
 
