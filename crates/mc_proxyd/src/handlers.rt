@@ -3,7 +3,7 @@ ghost use Rattle.std.specs.Prelude.{◌≡◌, ◌<◌, vec_len};
 
 use crate::limits::CLIENT_ROOM;
 use crate::pools::is_marked;
-use mc_net::{AfterPump, Client, Handler, PIECE_LEN, guarded, step_after};
+use mc_net::{AfterPump, Client, Guard, Handler, Input, PIECE_LEN, step_after};
 use mc_program::ServeError;
 use mc_proxy::{Losses, MAX_SESSIONS, Proxy};
 use mc_proxy_pump::{ClientTally, Pumped, is_owed, pump_answers, pump_client};
@@ -113,7 +113,13 @@ impl ProxyHandler {
     fn pump(&mut self, client: &mut Client<ClientState>) -> Pumped
         ensures { client.new.number ≡ client.old.number }
     {
-        let mut input = guarded(&client.stream, client.first, client.readiness);
+        let mut input = Input {
+            stream: Guard {
+                stream: &client.stream,
+                first: client.first,
+            },
+            readiness: client.readiness,
+        };
         let mut output = &client.stream;
         let pumped = pump_client(
             &mut self.proxy,
