@@ -5,7 +5,7 @@ Usage: edits.py [--read] [CRATE | CRATE/NAME ...]       (a crate's edits, or one
 
 The crates are copied to a temporary folder, with their build results, and have these edits there in place of the gate's; `rt must-fail`
 tries them, crate by crate. That takes a crate's proof and some 20 seconds an edit, and first the proof of each library below that is not
-built; all edits take some two hours of processor time. A line for each crate says how many were refused and how long it took, and at the end
+built; all edits take hours of processor time. A line for each crate says how many were refused and how long it took, and at the end
 there is one for each edit that was not. With --read it only checks that each edit can be made: each text that it names is in its file
 exactly once. That is a part of `make test`. The last line is 'N passed, M failed', one for each edit.
 """
