@@ -11,7 +11,7 @@ use crate::stores::{may_store, send_store};
 use crate::unanswered::Unanswered;
 use mc_link::{Link, Tag};
 use mc_request::{Parsed, RequestRef};
-use mc_request_reader::{Front, LentGet, Peek, Reader};
+use mc_request_reader::{Front, LentGet, Look, Peek, Reader};
 use mc_ring::Ring;
 use mc_route::{Losses, Outcome, Routed, goes_to, route};
 use mc_text::{consume_front, shrink_if_idle};
@@ -111,11 +111,12 @@ impl Session {
         ensures links_kept { OnErr result (states links.new ≡ states links.old) }
         ensures emptied { queue.new.items ≡ [] }
     {
-        if self.reader.needs_more() {
-            return Ok(SessionTurn::Idle);
-        }
-        let Some(get) = self.reader.peek_get() else {
-            return self.turn_lent(alloc, number, ring, losses, links, queue);
+        let get = match self.reader.look() {
+            Look::More => return Ok(SessionTurn::Idle),
+            Look::Get(get) => get,
+            Look::Line(_) | Look::Other => {
+                return self.turn_lent(alloc, number, ring, losses, links, queue);
+            }
         };
         let (kept, front) = {
             let LentGet {

@@ -1,8 +1,6 @@
 -- A line and what has arrived after it, kept apart.
 use Rattle.std.proofs.Common.{◌≡◌, ◌∙◌, ℕ, suc, zero, ◌+◌, ◌-◌, ◌<◌, ◌≤◌, true, false, IsTrue, nat_le, inl, inr, List, [], ◌∷◌, ◌++◌, length, take, drop, Option, Some, None, is_some, refl, sym, ap, arith, eqb, nat_lt, length-append}
 use Rattle.std.specs.Prelude.{IfSome}
-use Rattle.mc_request_reader.specs.declared.peeks.LentGet.{LentGet}
-use Rattle.mc_request_reader.specs.declared.peeks.LentLine.{LentLine}
 use Rattle.mc_request_reader.specs.declared.peeks.TakenSet.{TakenSet}
 use Rattle.std.specs.Option.{option_map}
 use Rattle.std.proofs.lemmas.List.{get_or-take, length-take}
@@ -18,7 +16,7 @@ use Rattle.mc_request.specs.declared.parts.Parsed.{Parsed}
 use Rattle.mc_request_reader.specs.declared.peeks.Front.{Front}
 use Rattle.mc_request_reader.specs.Steps.{StartsBy}
 use Rattle.mc_request_reader.specs.Reader.{ReaderState, fresh_reader, rest_of, KeepsRest, KeepsLittle}
-use Rattle.mc_request_reader.specs.Peeks.{HasNone, IsFirst, IsAlone, Shows, front_by, front_of, get_of, past}
+use Rattle.mc_request_reader.specs.Peeks.{HasNone, IsFirst, Shows, front_of, past}
 use Rattle.mc_request_reader.specs.ApartFields.{IsLine, Announces, front_at, joined, set_with}
 use Rattle.mc_request_reader.specs.ApartReaderFields.{state_by, IsIdleWhile}
 use Rattle.mc_request_reader.proofs.ReaderLemmas.{whole_is_first, none_yet, ready_by, shows_whole}
@@ -157,15 +155,7 @@ none_shown s what front fresh shows =
     absurd cc
 
 -- what is first beside what is kept apart is first
-pub get_shown : (apart : Option ReaderState) (others : ReaderState) (get : Option LentGet) → IsIdleWhile apart others
-    → IfSome get (λ get. Shows others (get_of get) get.front) → IfSome get (λ get. Shows (state_by apart others) (get_of get) get.front)
-get_shown None others get idle seen = seen
-get_shown (Some apart) others None idle seen = tt
-get_shown (Some apart) others (Some get) idle seen = absurd (none_shown others (get_of get) get.front idle.0 seen)
-
-pub line_shown : (apart : Option ReaderState) (others : ReaderState) (line : Option LentLine) → IsIdleWhile apart others
-    → IfSome line (λ line. (what : Parsed) → IsAlone line what → Shows others what (front_by line what))
-    → IfSome line (λ line. (what : Parsed) → IsAlone line what → Shows (state_by apart others) what (front_by line what))
-line_shown None others line idle seen = seen
-line_shown (Some apart) others None idle seen = tt
-line_shown (Some apart) others (Some line) idle seen = λ what alone. absurd (none_shown others what (front_by line what) idle.0 (seen what alone))
+pub shown_beside : (apart : Option ReaderState) (others : ReaderState) (what : Parsed) (front : Front) → IsIdleWhile apart others → Shows others what front
+    → Shows (state_by apart others) what front
+shown_beside None others what front idle shows = shows
+shown_beside (Some apart) others what front idle shows = absurd (none_shown others what front idle.0 shows)

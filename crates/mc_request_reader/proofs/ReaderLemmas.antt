@@ -12,13 +12,16 @@ use Rattle.mc_request_reader.specs.declared.peeks.Front.{Front}
 use Rattle.mc_request.specs.Faults.{closes}
 use Rattle.mc_request_reader.specs.declared.searched.Searched.{Searched}
 use Rattle.mc_request_reader.specs.declared.searched.Searched.TheVariants as searches
-use Rattle.mc_request_reader.specs.Steps.{IsSearched, IsShortOf, IsWholeFrom}
+use Rattle.mc_request_reader.specs.declared.peeks.Look.{Look}
+use Rattle.mc_request_reader.specs.declared.peeks.Look.TheVariants as looks
+use Rattle.mc_request_reader.specs.Steps.{IsSearched, IsSeen, IsShortOf, IsWholeFrom}
 use Rattle.mc_request.specs.Requests.{next_request, requests_from, requests_of, ends}
 use Rattle.mc_request_reader.specs.Reader.{ReaderState, rest_of, rest_from, most_held, KeepsRest, KeepsLittle}
 use Rattle.mc_request_reader.specs.UnreadFields.{IsUnread}
 use Rattle.mc_request_reader.specs.declared.unread.Unread.TheInside.{Inside}
-use Rattle.mc_request_reader.specs.Peeks.{HasNone, IsFirst, Shows, front_of, first_by, past}
+use Rattle.mc_request_reader.specs.Peeks.{HasNone, IsFirst, IsWellFormedLook, Looks, Shows, front_by, front_of, first_by, get_of, past}
 use Rattle.mc_request.proofs.RequestLemmas.{given, next_request-size, requests-step, takes, waits}
+use Rattle.mc_request.proofs.WellFormedLemmas.{next_request_good}
 use Rattle.mc_request_reader.proofs.StepLemmas.{same_test}
 
 after_taken : (b : Bool) (bytes : List ℕ) → (if b then [] else requests_of bytes) ≡ rest_from b None bytes
@@ -153,3 +156,17 @@ shown_closes old what front new shows keeps = keeps.closed ∙ shows.closes
 -- what a look showed is still first
 pub shown_waits : (s : ReaderState) (what : Parsed) (front : Front) → Shows s what front → rest_of s [] ≡ what ∷ rest_of (past front s) []
 shown_waits s what front shows = shows.first.rest []
+
+-- a fast look at the bytes is one at the reader
+pub look_by : (s : ReaderState) (look : Look) → s.closed ≡ false → s.dropping ≡ None → IsSeen s.unread look → Looks s look
+look_by s looks.More unclosed none seen = none_yet s s refl unclosed none seen
+look_by s (looks.Get get) unclosed none seen = shows_whole s (get_of get) get.front unclosed none seen.1 seen.0
+look_by s (looks.Line line) unclosed none seen = λ what alone. shows_whole s what (front_by line what) unclosed none refl (seen what alone)
+look_by s looks.Other unclosed none seen = tt
+
+-- and what it borrows is well formed
+pub look_good : (unread : List ℕ) (look : Look) → IsSeen unread look → IsWellFormedLook look
+look_good unread looks.More seen = tt
+look_good unread (looks.Get get) seen = next_request_good unread (get_of get, get.front.size) seen.0
+look_good unread (looks.Line line) seen = λ what alone. next_request_good unread (what, line.size) (seen what alone)
+look_good unread looks.Other seen = tt

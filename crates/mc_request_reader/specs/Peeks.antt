@@ -11,6 +11,8 @@ use Rattle.mc_request_reader.specs.declared.peeks.Front.{Front}
 use Rattle.mc_request_reader.specs.declared.peeks.LentGet.{LentGet}
 use Rattle.mc_request_reader.specs.declared.peeks.LentLine.{LentLine}
 use Rattle.mc_request_reader.specs.declared.peeks.TakenSet.{TakenSet}
+use Rattle.mc_request_reader.specs.declared.peeks.Look.{Look}
+use Rattle.mc_request_reader.specs.declared.peeks.Look.TheVariants as looks
 use Rattle.mc_request_reader.specs.declared.peeks.Peek.{Peek}
 use Rattle.mc_request_reader.specs.declared.peeks.Peek.TheVariants as peeks
 use Rattle.mc_request_reader.specs.declared.reader.Next.{Next}
@@ -88,3 +90,17 @@ IsAlone line what = meaning (words line.content.now) ≡ Alone what
 -- where what a line asks for ends
 abbrev pub front_by : LentLine → Parsed → Front
 front_by line what = record { size = line.size; closes = ends what }
+
+-- a fast look at the first: what a line asks for is first if no data block follows the line
+abbrev pub Looks : ReaderState → Look → Type 0
+Looks s looks.More = HasNone s s
+Looks s (looks.Get get) = Shows s (get_of get) get.front
+Looks s (looks.Line line) = (what : Parsed) → IsAlone line what → Shows s what (front_by line what)
+Looks s looks.Other = Unit {0}
+
+-- what a fast look borrows is well formed
+abbrev pub IsWellFormedLook : Look → Type 0
+IsWellFormedLook looks.More = Unit {0}
+IsWellFormedLook (looks.Get get) = is_well_formed (get_of get) ≡ true
+IsWellFormedLook (looks.Line line) = (what : Parsed) → IsAlone line what → is_well_formed what ≡ true
+IsWellFormedLook looks.Other = Unit {0}

@@ -7,6 +7,8 @@ use Rattle.mc_request.specs.declared.lines.RequestRef.{RequestRef}
 use Rattle.mc_request.specs.declared.parts.Parsed.{Parsed}
 use Rattle.mc_request.specs.declared.parts.Parsed.TheVariants as takens
 use Rattle.mc_request_reader.specs.declared.peeks.TheConstants.{REQUEST_LIMIT}
+use Rattle.mc_request_reader.specs.declared.peeks.Look.{Look}
+use Rattle.mc_request_reader.specs.declared.peeks.Look.TheVariants as looks
 use Rattle.mc_request_reader.specs.declared.searched.Searched.{Searched}
 use Rattle.mc_request_reader.specs.declared.searched.Searched.TheVariants as searches
 use Rattle.mc_request_reader.specs.declared.steps.Arrival.{Arrival}
@@ -14,6 +16,7 @@ use Rattle.mc_request_reader.specs.declared.steps.Arrival.TheVariants.{Whole, Wa
 use Rattle.mc_request.specs.Faults.{closes}
 use Rattle.mc_request.specs.Meanings.{Meaning}
 use Rattle.mc_request.specs.Requests.{next_request, taken_by}
+use Rattle.mc_request_reader.specs.Peeks.{IsAlone, get_of}
 
 -- no text that begins so has a whole request before it has n bytes
 abbrev pub IsShortOf : ℕ → List ℕ → Type 0
@@ -54,3 +57,10 @@ pub record StartsBy (unread : List ℕ) (m : Meaning) (line : ℕ) : Type 0 wher
 abbrev pub lent_seen : Option (RequestRef × ℕ) → Option (Parsed × ℕ)
 lent_seen None = None
 lent_seen (Some lent) = Some (asked_of lent.0, lent.1)
+
+-- what a fast look at bytes shows, as a request that takes so many bytes
+abbrev pub IsSeen : List ℕ → Look → Type 0
+IsSeen unread looks.More = next_request unread ≡ None
+IsSeen unread (looks.Get get) = (next_request unread ≡ Some (get_of get, get.front.size)) × (get.front.closes ≡ false)
+IsSeen unread (looks.Line line) = (what : Parsed) → IsAlone line what → next_request unread ≡ Some (what, line.size)
+IsSeen unread looks.Other = Unit {0}

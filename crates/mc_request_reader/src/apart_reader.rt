@@ -6,7 +6,7 @@ ghost use Rattle.mc_request_reader.specs.Peeks.{front_of, past};
 ghost use Rattle.mc_request_reader.specs.Reads.{Comes, ReadsBy};
 
 use crate::apart::{Apart, LEAST_PIECE};
-use crate::peeks::{Front, LentGet, LentLine, Peek, TakenSet};
+use crate::peeks::{Front, Look, Peek, TakenSet};
 use crate::reader::Reader;
 use mc_request::ReadError;
 use std::alloc::Global;
@@ -44,10 +44,8 @@ impl Model for ApartReader {
 
 impl ApartReader {
     ghost use Rattle.mc_request.specs.Requests.{ends};
-    ghost use Rattle.mc_request.specs.WellFormed.{is_well_formed};
-    ghost use Rattle.mc_request.specs.declared.parts.Parsed.{Parsed};
     ghost use Rattle.mc_request_reader.specs.Reader.{rest_of, kept_of};
-    ghost use Rattle.mc_request_reader.specs.Peeks.{Peeks, Shows, HasNone, IsAlone, IsFirst, IsWellFormedPeek, front_by, get_of, set_of};
+    ghost use Rattle.mc_request_reader.specs.Peeks.{Looks, Peeks, IsFirst, IsWellFormedLook, IsWellFormedPeek, set_of};
 
     /// Makes a reader to which nothing has arrived. It takes no memory.
     pub fn new(alloc: Global) -> Self
@@ -137,24 +135,23 @@ impl ApartReader {
         }
     }
 
-    /// Borrows the first request that has arrived whole, if it is a good `get` or `gets` without a space in front, as [`Reader::peek_get`] does.
+    /// Looks at what is first, as [`Reader::look`] does.
     #[inline(always)]
-    pub fn peek_get(&self) -> Option<LentGet<'_>>
-        ensures seen { IfSome result (λ get. Shows self.now (get_of get) get.front) }
-        ensures well_formed { IfSome result (λ get. is_well_formed (get_of get) ≡ true) }
+    pub fn look(&self) -> Look<'_>
+        ensures seen { Looks self.now result }
+        ensures well_formed { IsWellFormedLook result }
         ensures little { KeepsLittle self.now }
     {
-        self.reader.peek_get()
-    }
-
-    /// Borrows the first line, if its end is known and it begins like no storage command, as [`Reader::peek_blockless`] does.
-    #[inline(always)]
-    pub fn peek_blockless(&self) -> Option<LentLine<'_>>
-        ensures seen { IfSome result (λ line. (what : Parsed) → IsAlone line what → Shows self.now what (front_by line what)) }
-        ensures well_formed { IfSome result (λ line. (what : Parsed) → IsAlone line what → is_well_formed what ≡ true) }
-        ensures little { KeepsLittle self.now }
-    {
-        self.reader.peek_blockless()
+        match self.reader.look() {
+            Look::More => match &self.apart {
+                None => Look::More,
+                Some(apart) if apart.needs_more() => Look::More,
+                Some(_) => Look::Other,
+            },
+            Look::Get(get) => Look::Get(get),
+            Look::Line(line) => Look::Line(line),
+            Look::Other => Look::Other,
+        }
     }
 
     /// Returns the bytes that have arrived and are not consumed. While a block is kept apart there are none of these. It reads no byte.
@@ -163,21 +160,6 @@ impl ApartReader {
         ensures { 0 < length result.now → result.now ≡ self.now.unread }
     {
         self.reader.unread()
-    }
-
-    /// Returns whether it is known that nothing is whole until more bytes arrive. It reads no byte. False says nothing.
-    #[inline(always)]
-    pub fn needs_more(&self) -> bool
-        ensures short { result ≡ true → HasNone self.now self.now }
-        ensures little { KeepsLittle self.now }
-    {
-        if !self.reader.needs_more() {
-            return false;
-        }
-        match &self.apart {
-            None => true,
-            Some(apart) => apart.needs_more(),
-        }
     }
 
     /// Returns whether a whole request or fault has arrived, as [`Reader::ready`] does.

@@ -3,10 +3,9 @@
 //! A [`Reader`] is fed the bytes of a connection in any pieces ([`Reader::feed`]), and returns their requests and faults in order
 //! ([`Reader::next`]). [`Reader::peek`] and [`Reader::consume`] are the two halves of `next`. `peek` borrows what is first: its keys and its
 //! block are slices of the reader's buffer. `consume` consumes it. [`Reader::ready`] returns whether a whole one has arrived, and
-//! [`Reader::held`] how many bytes are buffered. There are faster looks: [`Reader::peek_get`] at a `get`, [`Reader::peek_blockless`] at other lines,
-//! and [`Reader::needs_more`] at whether nothing is whole. [`Reader::unread`] returns the bytes. An [`ApartReader`] is a reader for callers that
-//! keep large data blocks: it moves out the block of a large `set` ([`ApartReader::take_set`]). The crate `mc_request` reads one line: `peek`
-//! returns its `RequestRef`, and `next` its `Request` or `Fault`.
+//! [`Reader::held`] how many bytes are buffered. [`Reader::look`] is faster than `peek`, and shows a good `get`, or a line that is not read yet.
+//! [`Reader::unread`] returns the bytes. An [`ApartReader`] is a reader for callers that keep large data blocks: it moves out the block of a large
+//! `set` ([`ApartReader::take_set`]). The crate `mc_request` reads one line: `peek` returns its `RequestRef`, and `next` its `Request` or `Fault`.
 //!
 //! A reader stands for a function: from the text still to arrive to the requests and faults that it will return. `feed`, `next` and `consume` are
 //! proved to keep that function, so how the text is cut never matters: see `specs/Reader.antt` for the function, and `specs/Requests.antt` of
@@ -36,5 +35,5 @@ pub use examples::{
 pub use laws::{
     requests_are_no_more_than_bytes, requests_are_well_formed, requests_begin, requests_go_on,
 };
-pub use peeks::{Front, LentGet, LentLine, Peek, REQUEST_LIMIT, TakenSet};
+pub use peeks::{Front, LentGet, LentLine, Look, Peek, REQUEST_LIMIT, TakenSet};
 pub use reader::{Next, Reader};

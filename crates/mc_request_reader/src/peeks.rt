@@ -25,6 +25,19 @@ pub enum Peek<'a> {
     Closed,
 }
 
+/// What is first in a reader, as far as a fast look reads. It is borrowed, and not consumed yet.
+#[derive(Drop)]
+pub enum Look<'a> {
+    /// Nothing is whole until more bytes arrive.
+    More,
+    /// A good `get` or `gets` without a space in front.
+    Get(LentGet<'a>),
+    /// Another line. If no data block follows it, it is what is first.
+    Line(LentLine<'a>),
+    /// It says nothing of what is first.
+    Other,
+}
+
 /// The command line that is first in a reader. It is borrowed, and not consumed yet.
 #[derive(Drop)]
 pub struct LentLine<'a> {

@@ -1,9 +1,9 @@
 //! A reader of requests, fed in pieces.
-ghost use Rattle.std.specs.Prelude.{◌≡◌, ◌<◌, ◌≤◌, ◌+◌, ◌↔◌, ℕ, List, [], ◌++◌, length, drop, vec_len, true, false, Some, IsTrue, IfSome, OnOk, OnErr};
+ghost use Rattle.std.specs.Prelude.{◌≡◌, ◌<◌, ◌≤◌, ◌+◌, ◌↔◌, ℕ, List, [], ◌++◌, length, drop, vec_len, true, false, Some, IsTrue, OnOk, OnErr};
 
 mod owned;
 
-use crate::peeks::{Front, LentGet, LentLine, Peek};
+use crate::peeks::{Front, Look, Peek};
 use crate::unread::Unread;
 use mc_request::{Fault, ReadError, Request};
 use std::alloc::Global;
@@ -29,9 +29,9 @@ pub enum Next {
 /// block has not arrived whole is read once more when it has. A refused block is dropped while it arrives. After a `feed` or a
 /// `consume` it is known whether something is whole. If nothing is, no call reads a byte until more arrive, with one exception. If
 /// a `consume` brought a short line to the front, of at most 512 bytes, each look and each [`Reader::ready`] reads the words of it
-/// that may announce a block. That lasts until the next feed. If something is whole, `ready` reads no byte, and [`Reader::peek`],
-/// [`Reader::peek_get`] and [`Reader::peek_blockless`] each read what is first, at each call: its line, and no more than 15 bytes behind
-/// that. If nothing is whole, a reader keeps fewer than [`REQUEST_LIMIT`](crate::REQUEST_LIMIT) bytes.
+/// that may announce a block. That lasts until the next feed. If something is whole, `ready` reads no byte, and [`Reader::peek`] and
+/// [`Reader::look`] each read what is first, at each call: no more than its line. If nothing is whole, a reader keeps fewer than
+/// [`REQUEST_LIMIT`](crate::REQUEST_LIMIT) bytes.
 #[derive(Drop)]
 pub struct Reader {
     alloc: Global,
@@ -51,9 +51,7 @@ impl Model for Reader {
 impl Reader {
     ghost use Rattle.mc_request.specs.Requests.{requests_of};
     ghost use Rattle.mc_request_reader.specs.Reader.{fresh_reader, rest_of, kept_of, KeepsRest, KeepsLittle};
-    ghost use Rattle.mc_request.specs.WellFormed.{is_well_formed};
-    ghost use Rattle.mc_request.specs.declared.parts.Parsed.{Parsed};
-    ghost use Rattle.mc_request_reader.specs.Peeks.{Peeks, Shows, HasNone, IsAlone, IsWellFormedPeek, front_by, front_of, get_of, past};
+    ghost use Rattle.mc_request_reader.specs.Peeks.{Looks, Peeks, IsWellFormedLook, IsWellFormedPeek, front_of, past};
 
     /// Makes a reader to which nothing has arrived. It takes no memory.
     pub fn new(alloc: Global) -> Self
@@ -115,32 +113,18 @@ impl Reader {
         self.unread.peek()
     }
 
-    /// Borrows the first request that has arrived whole, if it is a good `get` or `gets` without a space in front: what [`Reader::peek`]
-    /// would show, in small values. None says nothing of what is first.
+    /// Looks at what is first, as far as small values can show it and without reading much: [`Reader::peek`] moves what it shows through a large
+    /// value. If it shows a [`Look::Line`], what that asks for, by [`command_line`](mc_request::command_line), is served where that call wrote it.
     ///
-    /// Its line is read once if it begins with `g`, else one byte of it is. It takes no memory, and copies nothing.
+    /// A line is shown once its end is known. It is read if it begins with `g`. Of another one the first byte is, and the one before the
+    /// line feed. It takes no memory, and copies nothing.
     #[inline(always)]
-    pub fn peek_get(&self) -> Option<LentGet<'_>>
-        ensures seen { IfSome result (λ get. Shows self.now (get_of get) get.front) }
-        ensures well_formed { IfSome result (λ get. is_well_formed (get_of get) ≡ true) }
+    pub fn look(&self) -> Look<'_>
+        ensures seen { Looks self.now result }
+        ensures well_formed { IsWellFormedLook result }
         ensures little { KeepsLittle self.now }
     {
-        self.unread.peek_get()
-    }
-
-    /// Borrows the first line, if its end is known and what follows its leading spaces begins like no storage command. What it asks
-    /// for, by [`command_line`](mc_request::command_line), is then served in the place where that call wrote it: [`Reader::peek`]
-    /// moves it. None says nothing of what is first.
-    ///
-    /// Its leading spaces are read, 16 bytes at a time, so up to 15 bytes behind them too, and the byte before its line feed. It takes
-    /// no memory, and copies nothing.
-    #[inline(always)]
-    pub fn peek_blockless(&self) -> Option<LentLine<'_>>
-        ensures seen { IfSome result (λ line. (what : Parsed) → IsAlone line what → Shows self.now what (front_by line what)) }
-        ensures well_formed { IfSome result (λ line. (what : Parsed) → IsAlone line what → is_well_formed what ≡ true) }
-        ensures little { KeepsLittle self.now }
-    {
-        self.unread.peek_blockless()
+        self.unread.look()
     }
 
     /// Returns the bytes that have arrived and are not consumed: what [`Reader::peek`] shows begins with them. It reads none of them.
@@ -150,16 +134,6 @@ impl Reader {
         ensures little { KeepsLittle self.now }
     {
         self.unread.unread()
-    }
-
-    /// Returns whether it is known that nothing is whole until more bytes arrive: then [`Reader::peek`] would show [`Peek::More`].
-    /// It reads no byte, and copies nothing. False says nothing.
-    #[inline(always)]
-    pub fn needs_more(&self) -> bool
-        ensures short { result ≡ true → HasNone self.now self.now }
-        ensures little { KeepsLittle self.now }
-    {
-        self.unread.needs_more()
     }
 
     /// Returns whether a whole request or fault has arrived, which [`Reader::next`] would return. It takes no

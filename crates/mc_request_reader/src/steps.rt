@@ -2,21 +2,21 @@
 ghost use Rattle.std.specs.Prelude.{◌≡◌, ◌≤◌, ◌<◌, ◌+◌, ◌-◌, ◌^◌, ◌++◌, ℕ, List, length, take, drop, true, None, Some, is_some, IfSome};
 ghost use Rattle.mc_text.specs.Lines.{line_end};
 ghost use Rattle.mc_text.specs.Words.{words};
-ghost use Rattle.mc_request.specs.Meanings.{meaning, Alone};
+ghost use Rattle.mc_request.specs.Meanings.{meaning};
 ghost use Rattle.mc_request.specs.Requests.{with_block, stored, taken_by, next_request};
 ghost use Rattle.mc_request.specs.declared.parts.Parsed.TheVariants.{Whole};
 ghost use Rattle.mc_request.specs.LinesSeen.{meaning_of, storing_of, asked_of};
-ghost use Rattle.mc_request_reader.specs.Steps.{IsSearched, ArrivalIs, StartsBy, lent_seen};
+ghost use Rattle.mc_request_reader.specs.Steps.{IsSearched, ArrivalIs, IsSeen, StartsBy, lent_seen};
 ghost use Rattle.mc_request.specs.WellFormed.{is_good_meaning, is_good_storing};
 ghost use Rattle.mc_request_reader.specs.ApartFields.{IsLine, Announces, set_with};
 
-use crate::peeks::{LentLine, TakenSet};
+use crate::peeks::{Front, LentGet, LentLine, Look, TakenSet};
 use crate::searched::Searched;
 use mc_request::{
-    CommandLine, Fault, Parsed, PendingStore, Request, RequestRef, StoreMode, Update, announced_in,
-    command_line, plain_get,
+    CommandLine, Fault, PendingStore, RequestRef, StoreMode, Update, announced_in, command_line,
+    plain_get,
 };
-use mc_text::{Block, Key, LINE_LIMIT, Line, WordIter, content_to, without_spaces};
+use mc_text::{Block, Key, LINE_LIMIT, Line, content_to};
 use std::alloc::Global;
 
 /// What is after a data block.
@@ -301,51 +301,36 @@ fn with_block<'a>(storing: PendingStore<'a>, block: &'a [u8], end: &[u8]) -> Req
     }
 }
 
-/// Returns the keys of the first request of the bytes, which were searched this far, if it is a good `get` or `gets` without a space in
-/// front. It also returns whether it asks for numbers, and how many bytes it takes. Of a line that does not begin with `g` it reads one byte.
+/// Looks at the first of the bytes, which were searched this far, if the end of their line is known. Of a line that does not begin with `g` it reads
+/// its first byte and the byte before its line feed.
 #[inline(always)]
-pub fn first_get(unread: &[u8], searched: Searched) -> Option<(WordIter<'_>, bool, usize)>
+pub fn first_look(unread: &[u8], searched: Searched) -> Look<'_>
     requires { IsSearched searched unread.now }
-    ensures { IfSome result (λ get. next_request unread.now ≡ Some (Parsed.Whole (Request.Get get.0 None get.1), get.2)) }
+    ensures { IsSeen unread.now result }
 {
-    if !matches!(searched, Searched::Ends(_)) || unread.first() != Some(&b'g') {
-        return None;
+    if !matches!(searched, Searched::Ends(_)) {
+        return Look::Other;
     }
     match searched.line(unread) {
-        Line::Whole { content, taken } => {
-            let (keys, with_cas) = plain_get(content)?;
-            Some((keys, with_cas, taken))
-        }
-        Line::Partial | Line::TooLong => None,
-    }
-}
-
-/// Borrows the first line of the bytes, which were searched this far, if its end is known and what follows its leading spaces begins
-/// like no storage command.
-#[inline(always)]
-pub fn first_lone(unread: &[u8], searched: Searched) -> Option<LentLine<'_>>
-    requires { IsSearched searched unread.now }
-    ensures { IfSome result (λ line. (what : Parsed) → meaning (words line.content.now) ≡ Alone what
-        → next_request unread.now ≡ Some (what, line.size)) }
-{
-    if !matches!(searched, Searched::Ends(_)) || !is_lone(unread) {
-        return None;
-    }
-    match searched.line(unread) {
-        Line::Whole { content, taken } => Some(LentLine {
+        Line::Whole {
             content,
-            size: taken,
-        }),
-        Line::Partial | Line::TooLong => None,
-    }
-}
-
-/// Returns whether what follows the leading spaces begins like no storage command. A wrong answer affects only the speed.
-#[inline(always)]
-fn is_lone(unread: &[u8]) -> bool {
-    match without_spaces(unread).split_first() {
-        Some((b'm', rest)) => rest.first() != Some(&b's'),
-        Some((letter, _)) => !matches!(letter, b'a' | b'c' | b'p' | b'r' | b's'),
-        None => false,
+            taken: size,
+        } => {
+            if unread.first() == Some(&b'g')
+                && let Some((keys, with_cas)) = plain_get(content)
+            {
+                let front = Front {
+                    size,
+                    closes: false,
+                };
+                return Look::Get(LentGet {
+                    keys,
+                    with_cas,
+                    front,
+                });
+            }
+            Look::Line(LentLine { content, size })
+        }
+        Line::Partial | Line::TooLong => Look::Other,
     }
 }

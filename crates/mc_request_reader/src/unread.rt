@@ -1,9 +1,9 @@
 //! The bytes that have arrived and are not consumed.
-ghost use Rattle.std.specs.Prelude.{◌≡◌, ◌<◌, ◌≤◌, ◌+◌, ◌↔◌, ℕ, List, [], ◌++◌, length, drop, vec_len, true, false, None, Some, is_some, IsTrue, IfSome, OnOk, OnErr};
+ghost use Rattle.std.specs.Prelude.{◌≡◌, ◌<◌, ◌≤◌, ◌+◌, ◌↔◌, ℕ, List, [], ◌++◌, length, drop, vec_len, true, false, None, Some, is_some, IsTrue, OnOk, OnErr};
 
-use crate::peeks::{Front, LentGet, LentLine, Peek, REQUEST_LIMIT};
+use crate::peeks::{Front, Look, Peek, REQUEST_LIMIT};
 use crate::searched::Searched;
-use crate::steps::{Arrival, arrival_of, first_asked, first_get, first_lone, is_whole};
+use crate::steps::{Arrival, arrival_of, first_asked, first_look, is_whole};
 use mc_request::{Fault, ReadError, RequestRef};
 use mc_text::{Line, consume_front, drain_front, shrink_if_idle};
 use std::alloc::Global;
@@ -44,9 +44,7 @@ impl Model for Unread {
 impl Unread {
     ghost use Rattle.mc_request.specs.Requests.{next_request};
     ghost use Rattle.mc_request_reader.specs.Reader.{fresh_reader, rest_of, kept_of, KeepsRest, KeepsLittle};
-    ghost use Rattle.mc_request.specs.WellFormed.{is_well_formed};
-    ghost use Rattle.mc_request.specs.declared.parts.Parsed.{Parsed};
-    ghost use Rattle.mc_request_reader.specs.Peeks.{Peeks, Shows, HasNone, IsAlone, IsWellFormedPeek, front_by, front_of, get_of, past};
+    ghost use Rattle.mc_request_reader.specs.Peeks.{Looks, Peeks, IsWellFormedLook, IsWellFormedPeek, front_of, past};
 
     /// Makes one to which nothing has arrived. It takes no memory.
     pub fn new(alloc: Global) -> Self
@@ -239,101 +237,34 @@ impl Unread {
         }
     }
 
-    /// Borrows the first request that has arrived whole, if it is a good `get` or `gets` without a space in front, whose line's end is known.
+    /// Looks at the first request or fault, if the end of its line is known.
     #[inline(always)]
-    pub fn peek_get(&self) -> Option<LentGet<'_>>
-        ensures seen { IfSome result (λ get. Shows self.now (get_of get) get.front) }
-        ensures well_formed { IfSome result (λ get. is_well_formed (get_of get) ≡ true) }
+    pub fn look(&self) -> Look<'_>
+        ensures seen { Looks self.now result }
+        ensures well_formed { IsWellFormedLook result }
     {
         if self.closed {
-            return None;
+            return Look::Other;
         }
         match self.dropping {
-            None => self.get_unread(),
-            Some(_) => None,
+            None => self.look_unread(),
+            Some(_) => Look::Other,
         }
     }
 
-    /// Borrows the first `get` or `gets`, if no refused block is being dropped.
+    /// Looks at the first request or fault, if no refused block is being dropped.
     #[inline(always)]
-    fn get_unread(&self) -> Option<LentGet<'_>>
+    fn look_unread(&self) -> Look<'_>
         requires open { self.now.closed ≡ false }
         requires whole { self.now.dropping ≡ None }
-        ensures seen { IfSome result (λ get. Shows self.now (get_of get) get.front) }
-        ensures well_formed { IfSome result (λ get. is_well_formed (get_of get) ≡ true) }
+        ensures seen { Looks self.now result }
+        ensures well_formed { IsWellFormedLook result }
     {
         let (_, unread) = self.buffer.split_at(self.start);
         if unread.len() < self.wanted {
-            return None;
+            return Look::More;
         }
-        let (keys, with_cas, size) = first_get(unread, self.searched)?;
-        Some(LentGet {
-            keys,
-            with_cas,
-            front: Front {
-                size,
-                closes: false,
-            },
-        })
-    }
-
-    /// Borrows the first line, if its end is known and what follows its leading spaces begins like no storage command.
-    #[inline(always)]
-    pub fn peek_blockless(&self) -> Option<LentLine<'_>>
-        ensures seen { IfSome result (λ line. (what : Parsed) → IsAlone line what → Shows self.now what (front_by line what)) }
-        ensures well_formed { IfSome result (λ line. (what : Parsed) → IsAlone line what → is_well_formed what ≡ true) }
-    {
-        if self.closed {
-            return None;
-        }
-        match self.dropping {
-            None => self.lone_unread(),
-            Some(_) => None,
-        }
-    }
-
-    /// Borrows the first line, if no refused block is being dropped.
-    #[inline(always)]
-    fn lone_unread(&self) -> Option<LentLine<'_>>
-        requires open { self.now.closed ≡ false }
-        requires whole { self.now.dropping ≡ None }
-        ensures seen { IfSome result (λ line. (what : Parsed) → IsAlone line what → Shows self.now what (front_by line what)) }
-        ensures well_formed { IfSome result (λ line. (what : Parsed) → IsAlone line what → is_well_formed what ≡ true) }
-    {
-        let (_, unread) = self.buffer.split_at(self.start);
-        if unread.len() < self.wanted {
-            return None;
-        }
-        let line = first_lone(unread, self.searched)?;
-        Some(line)
-    }
-
-    /// Returns whether it is known that nothing is whole until more bytes arrive. It reads no byte.
-    #[inline(always)]
-    pub fn needs_more(&self) -> bool
-        ensures { result ≡ true → HasNone self.now self.now }
-    {
-        if self.closed {
-            return false;
-        }
-        match self.dropping {
-            None => self.is_unread_short(),
-            Some(_) => false,
-        }
-    }
-
-    /// Returns whether it is known that nothing is whole, if no refused block is being dropped.
-    #[inline(always)]
-    fn is_unread_short(&self) -> bool
-        requires open { self.now.closed ≡ false }
-        requires whole { self.now.dropping ≡ None }
-        ensures { result ≡ true → HasNone self.now self.now }
-    {
-        let (_, unread) = self.buffer.split_at(self.start);
-        if unread.len() < self.wanted {
-            return true;
-        }
-        false
+        first_look(unread, self.searched)
     }
 
     /// Returns the bytes that have arrived and are not consumed.

@@ -9,10 +9,10 @@ use crate::turns::{Limited, ServerError, Turn};
 use mc_cache::Cache;
 use mc_reply::LINE_ROOM;
 use mc_request::{CommandLine, command_line};
-use mc_request_reader::{ApartReader, Front, LentGet, Peek};
+use mc_request_reader::{ApartReader, Front, LentGet, Look, Peek};
 use mc_store::Store;
 use mc_stream::{Gather, NoWriter};
-use mc_text::{consume_front, shrink_if_idle};
+use mc_text::{consume_front, shrink_if_idle, without_spaces};
 use std::alloc::Global;
 use std::io;
 use std::io::Read;
@@ -193,40 +193,41 @@ impl Connection {
         ensures writer_kept { OnErr result (writer.new ≡ writer.old) }
     {
         *went = 0;
-        if self.reader.needs_more() {
-            return Ok(Limited::Turned(Turn::Idle));
-        }
-        if let Some(get) = self.reader.peek_get() {
-            let LentGet {
-                keys,
-                with_cas,
-                front,
-            } = get;
-            self.looked = ahead.look(self.looked, &keys, front.size, self.reader.unread(), cache);
-            let room = room_for_get(&keys, cache);
-            if limit.is_passed_by_get(room, &keys, cache) {
-                return Ok(Limited::Refused);
+        match self.reader.look() {
+            Look::More => Ok(Limited::Turned(Turn::Idle)),
+            Look::Get(get) => {
+                let LentGet {
+                    keys,
+                    with_cas,
+                    front,
+                } = get;
+                let text = self.reader.unread();
+                self.looked = ahead.look(self.looked, &keys, front.size, text, cache);
+                let room = room_for_get(&keys, cache);
+                if limit.is_passed_by_get(room, &keys, cache) {
+                    return Ok(Limited::Refused);
+                }
+                self.output.reserve(room)?;
+                let sent = self.sent;
+                let put = serve_get(
+                    keys,
+                    room,
+                    with_cas,
+                    cache,
+                    moment,
+                    ahead,
+                    sent,
+                    &mut self.output,
+                    writer,
+                );
+                self.sent = put.sent;
+                *went = put.went;
+                self.looked = ahead.past(self.looked, front.size);
+                self.reader.consume(front);
+                Ok(Limited::Turned(Turn::Took))
             }
-            self.output.reserve(room)?;
-            let sent = self.sent;
-            let put = serve_get(
-                keys,
-                room,
-                with_cas,
-                cache,
-                moment,
-                ahead,
-                sent,
-                &mut self.output,
-                writer,
-            );
-            self.sent = put.sent;
-            *went = put.went;
-            self.looked = ahead.past(self.looked, front.size);
-            self.reader.consume(front);
-            return Ok(Limited::Turned(Turn::Took));
+            Look::Line(_) | Look::Other => self.turn_other(cache, moment, limit, ahead),
         }
-        self.turn_other(cache, moment, limit, ahead)
     }
 
     /// Takes a turn of a first request that is not a good `get` or `gets`, or of a fault.
@@ -252,35 +253,29 @@ impl Connection {
         ensures err { OnErr result (self.new ≡ self.old) }
         ensures cache_kept { OnErr result (cache.new ≡ cache.old) }
     {
-        match self.reader.peek_blockless() {
-            None => {
-                if self.reader.has_set()
-                    && let Some(turn) = self.turn_set(cache, moment, limit)
-                {
-                    return Ok(Limited::Turned(turn));
-                }
-                self.turn_peeked(cache, moment, limit, ahead)
+        if !is_peeked(self.reader.unread())
+            && let Look::Line(line) = self.reader.look()
+            && let CommandLine::Alone(asked) = &command_line(line.content)
+        {
+            let front = Front {
+                size: line.size,
+                closes: asked.ends(),
+            };
+            let text = self.reader.unread();
+            self.looked = ahead.look_past(self.looked, asked, front.size, text, cache);
+            if !serve_within(asked, cache, moment, limit, ahead, &mut self.output)? {
+                return Ok(Limited::Refused);
             }
-            Some(line) => match &command_line(line.content) {
-                CommandLine::Stores(_, _) | CommandLine::Refuses(_, _) => {
-                    self.turn_peeked(cache, moment, limit, ahead)
-                }
-                CommandLine::Alone(asked) => {
-                    let front = Front {
-                        size: line.size,
-                        closes: asked.ends(),
-                    };
-                    let text = self.reader.unread();
-                    self.looked = ahead.look_past(self.looked, asked, front.size, text, cache);
-                    if !serve_within(asked, cache, moment, limit, ahead, &mut self.output)? {
-                        return Ok(Limited::Refused);
-                    }
-                    self.looked = ahead.past(self.looked, front.size);
-                    self.reader.consume(front);
-                    Ok(Limited::Turned(Turn::Took))
-                }
-            },
+            self.looked = ahead.past(self.looked, front.size);
+            self.reader.consume(front);
+            return Ok(Limited::Turned(Turn::Took));
         }
+        if self.reader.has_set()
+            && let Some(turn) = self.turn_set(cache, moment, limit)
+        {
+            return Ok(Limited::Turned(turn));
+        }
+        self.turn_peeked(cache, moment, limit, ahead)
     }
 
     /// Takes a turn of a large `set` that the reader moves out: no byte of its data block is copied. It returns none if there is no such
@@ -375,5 +370,19 @@ impl Connection {
     {
         self.reader.shrink_if_idle(kept);
         shrink_if_idle(&mut self.output, kept);
+    }
+}
+
+/// Returns whether a text goes by [`ApartReader::peek`]: a faulty `get`, whose line a look has read, or what may begin a storage command. It reads the
+/// leading spaces and two bytes. A wrong answer affects only the speed.
+#[inline(always)]
+fn is_peeked(text: &[u8]) -> bool {
+    if text.starts_with(b"ge") {
+        return true;
+    }
+    match without_spaces(text).split_first() {
+        Some((b'm', rest)) => rest.first() == Some(&b's'),
+        Some((letter, _)) => matches!(letter, b'a' | b'c' | b'p' | b'r' | b's'),
+        None => true,
     }
 }

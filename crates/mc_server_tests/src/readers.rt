@@ -1,7 +1,7 @@
 //! What a reader keeps of a refused block, and what it returns of a large one.
 
 use crate::fixture_texts::with_value;
-use mc_request_reader::{ApartReader, Next, Peek, REQUEST_LIMIT, Reader, TakenSet};
+use mc_request_reader::{ApartReader, Look, Next, Peek, REQUEST_LIMIT, Reader, TakenSet};
 use std::test::Fail;
 
 /// 3,000,000 bytes.
@@ -63,6 +63,8 @@ fn a_large_set_with_a_get_after_it_is_lent(rt: HostRuntime) -> Result<(), Fail> 
         return Err(Fail::from("not lent"));
     };
     reader.consume(front);
-    assert!(rt; reader.peek_get().is_some() && reader.unread() == b"get a\r\n".as_slice());
+    assert!(rt;
+        matches!(reader.look(), Look::Get(_)) && reader.unread() == b"get a\r\n".as_slice()
+    );
     Ok(())
 }
