@@ -109,7 +109,7 @@ impl<M: Recent> EpochCache<M> {
         self.cache.prefetches()
     }
 
-    /// Prefetches: writes a hint of each key's entry. The returned byte only keeps the loads alive ([`Recent::prefetch`]).
+    /// Prefetches: writes a hint for each key. The returned byte only keeps the loads alive ([`Recent::prefetch`]).
     pub fn prefetch(&self, keys: &[&[u8]], hints: &mut [Hint]) -> u8 {
         self.cache.prefetch(keys, hints)
     }
