@@ -58,7 +58,8 @@ abbrev pub lent_seen : Option (RequestRef × ℕ) → Option (Parsed × ℕ)
 lent_seen None = None
 lent_seen (Some lent) = Some (asked_of lent.0, lent.1)
 
--- what a fast look at bytes shows, as a request that takes so many bytes
+-- what a fast look at bytes shows: nothing is whole; or their first request, which does not close; or a line, whose request is first if no
+-- data block follows it
 abbrev pub IsSeen : List ℕ → Look → Type 0
 IsSeen unread looks.More = next_request unread ≡ None
 IsSeen unread (looks.Get get) = (next_request unread ≡ Some (get_of get, get.front.size)) × (get.front.closes ≡ false)

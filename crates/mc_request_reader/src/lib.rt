@@ -3,8 +3,8 @@
 //! A [`Reader`] is fed the bytes of a connection in any pieces ([`Reader::feed`]), and returns their requests and faults in order
 //! ([`Reader::next`]). [`Reader::peek`] and [`Reader::consume`] are the two halves of `next`. `peek` borrows what is first: its keys and its
 //! block are slices of the reader's buffer. `consume` consumes it. [`Reader::ready`] returns whether a whole one has arrived, and
-//! [`Reader::held`] how many bytes are buffered. [`Reader::look`] is faster than `peek`, and shows a good `get`, or a line that is not read yet.
-//! [`Reader::unread`] returns the bytes. An [`ApartReader`] is a reader for callers that keep large data blocks: it moves out the block of a large
+//! [`Reader::held`] how many bytes are buffered. [`Reader::look`] is faster than `peek`: it shows a good `get`, or another line without what it
+//! asks for, or that nothing is whole. [`Reader::unread`] returns the bytes. An [`ApartReader`] is a reader for callers that keep large data blocks: it moves out the block of a large
 //! `set` ([`ApartReader::take_set`]). The crate `mc_request` reads one line: `peek` returns its `RequestRef`, and `next` its `Request` or `Fault`.
 //!
 //! A reader stands for a function: from the text still to arrive to the requests and faults that it will return. `feed`, `next` and `consume` are

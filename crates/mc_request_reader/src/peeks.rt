@@ -32,9 +32,10 @@ pub enum Look<'a> {
     More,
     /// A good `get` or `gets` without a space in front.
     Get(LentGet<'a>),
-    /// Another line. If no data block follows it, it is what is first.
+    /// Another line. If no data block follows it, what it asks for is what is first.
     Line(LentLine<'a>),
-    /// It says nothing of what is first.
+    /// Nothing is said of what is first: the end of its line is not known, it is too long, a refused block or its fault comes before it, or
+    /// nothing is read any more.
     Other,
 }
 

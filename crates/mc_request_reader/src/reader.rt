@@ -28,10 +28,10 @@ pub enum Next {
 /// Each byte is read a constant number of times, however the text is cut. The end of a line is searched for once. A line whose
 /// block has not arrived whole is read once more when it has. A refused block is dropped while it arrives. After a `feed` or a
 /// `consume` it is known whether something is whole. If nothing is, no call reads a byte until more arrive, with one exception. If
-/// a `consume` brought a short line to the front, of at most 512 bytes, each look and each [`Reader::ready`] reads the words of it
-/// that may announce a block. That lasts until the next feed. If something is whole, `ready` reads no byte, and [`Reader::peek`] and
-/// [`Reader::look`] each read what is first, at each call: no more than its line. If nothing is whole, a reader keeps fewer than
-/// [`REQUEST_LIMIT`](crate::REQUEST_LIMIT) bytes.
+/// a `consume` brought a short line to the front, of at most 512 bytes, each [`Reader::peek`] and each [`Reader::ready`] reads the words
+/// of it that may announce a block. That lasts until the next feed. If something is whole, `ready` reads no byte, and `peek` and
+/// [`Reader::look`] each read what is first, at each call: its line, and `peek` also the two bytes after its data block. If nothing is
+/// whole, a reader keeps fewer than [`REQUEST_LIMIT`](crate::REQUEST_LIMIT) bytes.
 #[derive(Drop)]
 pub struct Reader {
     alloc: Global,
@@ -113,11 +113,11 @@ impl Reader {
         self.unread.peek()
     }
 
-    /// Looks at what is first, as far as small values can show it and without reading much: [`Reader::peek`] moves what it shows through a large
-    /// value. If it shows a [`Look::Line`], what that asks for, by [`command_line`](mc_request::command_line), is served where that call wrote it.
+    /// Looks at what is first, faster than [`Reader::peek`], which moves what it shows through a large value. What a [`Look::Line`] asks for,
+    /// by [`command_line`](mc_request::command_line), is served where that call wrote it.
     ///
-    /// A line is shown once its end is known. It is read if it begins with `g`. Of another one the first byte is, and the one before the
-    /// line feed. It takes no memory, and copies nothing.
+    /// A line is shown once its end is known. The look reads a line that begins with `g`. Of another line it reads the first byte, and
+    /// the one before the line feed. It takes no memory, and copies nothing.
     #[inline(always)]
     pub fn look(&self) -> Look<'_>
         ensures seen { Looks self.now result }

@@ -9,7 +9,7 @@ use mc_text::{Line, consume_front, drain_front, shrink_if_idle};
 use std::alloc::Global;
 use std::marker::Model;
 
-/// The most bytes of a line that each look after a `consume` reads again, until more bytes arrive.
+/// The most bytes of a line that each `peek` after a `consume` reads again, until more bytes arrive.
 pub const SHORT_LINE: usize = 512;
 
 /// The bytes that have arrived and are not consumed, as a reader keeps them, with what is known of them.
@@ -159,7 +159,7 @@ impl Unread {
     }
 
     /// Searches for the end of the first line, notes how far it searched, and returns whether the end is found and the line is
-    /// short. Then a look reads at most `SHORT_LINE` bytes of it before it knows whether the first request or fault is whole.
+    /// short. Then `peek` reads at most `SHORT_LINE` bytes of it before it knows whether the first request or fault is whole.
     pub fn finds_short_line(&mut self) -> bool
         ensures same { self.new ≡ self.old }
         ensures little { result ≡ true → KeepsLittle self.new }

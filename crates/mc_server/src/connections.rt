@@ -308,7 +308,7 @@ impl Connection {
         Some(Turn::Took)
     }
 
-    /// Takes a turn by a look at what is first.
+    /// Takes a turn by [`ApartReader::peek`].
     fn turn_peeked<S: Store + Drop>(
         &mut self,
         cache: &mut Cache<S>,
@@ -373,13 +373,10 @@ impl Connection {
     }
 }
 
-/// Returns whether a text goes by [`ApartReader::peek`]: a faulty `get`, whose line a look has read, or what may begin a storage command. It reads the
-/// leading spaces and two bytes. A wrong answer affects only the speed.
+/// Returns whether a turn asks [`ApartReader::peek`] at once: what is behind the leading spaces may begin a storage command, or nothing is
+/// there. It reads the spaces 16 bytes at a time, so up to 15 bytes behind them. A wrong answer affects only the speed.
 #[inline(always)]
 fn is_peeked(text: &[u8]) -> bool {
-    if text.starts_with(b"ge") {
-        return true;
-    }
     match without_spaces(text).split_first() {
         Some((b'm', rest)) => rest.first() == Some(&b's'),
         Some((letter, _)) => matches!(letter, b'a' | b'c' | b'p' | b'r' | b's'),
