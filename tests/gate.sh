@@ -52,7 +52,7 @@ add tests/gate/prefixes.py
 add tests/gate/random.sh 5 2000
 add tests/gate/chart.py tests/examples/pool/pool_late_bytes_are_served.txt docs/lost_link.svg --check
 add tests/gate/pools.py --worlds 100
-add tests/gate/pool_mistakes.py 150
+add tests/gate/pool_mistakes.py
 add tests/gate/spellings.py 5
 add tests/gate/refused.py crates/mc_server_tests/out/mc_server_tests_tests refusals::clients_are_answered_all_the_same
 add tests/gate/refused.py crates/mc_server_tests/out/mc_server_tests_tests refusals::clients_are_answered_all_the_same_over_lru 1

@@ -38,8 +38,8 @@ steps is undecided, and the script fails.
 
 **--self-test** needs no program. It tries the search on faulty histories from the literature, on random histories beside the definition tried in
 each order, and on a long history (tests/lib/histories.py). Then it runs the clients on pools that a script plays (tests/lib/played_pools.py). It
-must find nothing in a right one. It must find a proxy that sends a lost command again, one that swaps two clients' replies, and others with one
-mistake each. The last line is 'N passed, M failed'.
+must find nothing in a right one, of one proxy or of two. It must find a proxy that sends a lost command again, one that swaps two clients' replies,
+two proxies that take other servers for a key's owner, and others with one mistake each. The last line is 'N passed, M failed'.
 
 Without --self-test it prints its counts. The status is 1 if a history is wrong or undecided, if a client received what is no answer to its
 command, if nothing was answered, if a client does not end, or if a server is not used again within 20 seconds.
@@ -574,8 +574,8 @@ class PlayedPool:
     def __init__(self, relay):
         self.relay, self.faults = relay, [self.server_restarted]
 
-    def connected(self, _):
-        return self.relay.connected()
+    def connected(self, number):
+        return self.relay.connected(number)
 
     @staticmethod
     def name(_, number):
@@ -638,6 +638,8 @@ def checks_of_pools(seed):
     for losses in ("told", "missed"):
         wrong, run = tried_on(played_pools.Relay(seed, losses), 3, seed, misses_say_nothing=losses == "missed")
         yield f"a right pool, losses {losses}, {run.told['calls']:,} calls", wrong is None, wrong
+    wrong, run = tried_on(played_pools.Relay(seed, proxies=2), 3, seed)
+    yield f"a right pool of two proxies, {run.told['calls']:,} calls", wrong is None, wrong
     wrong, _ = tried_on(played_pools.AddsAlways(seed), 2, seed)
     yield f"not to be found: {played_pools.AddsAlways.__doc__}", wrong is None, wrong
     wrong, _ = tried_on(played_pools.Relay(seed, "missed"), 10, seed)
@@ -647,6 +649,9 @@ def checks_of_pools(seed):
     for mistake in played_pools.MISTAKES:
         wrong, _ = tried_on(mistake(seed), 10, seed)
         yield f"to be found: {mistake.__doc__.strip()}", is_found(wrong), wrong
+    for mistake in played_pools.MISTAKES_OF_TWO:
+        wrong, _ = tried_on(mistake(seed, proxies=2), 10, seed)
+        yield f"to be found, of two proxies: {mistake.__doc__.strip()}", is_found(wrong), wrong
 
 
 def is_found(wrong):

@@ -68,7 +68,10 @@ GRAMMAR = (
 READINGS = (
     "how a world is read",
     "W",
-    tuple(("mc_world", "Worlds.antt", name) for name in ("WorldState", "text_of", "put_out_of", "history_of")),
+    (
+        *(("mc_world", "Worlds.antt", name) for name in ("WorldState", "text_of", "put_out_of", "history_of")),
+        ("mc_world", "WorldState.antt", "home_of"),
+    ),
 )
 
 ROOTS = [
@@ -293,7 +296,7 @@ def sizes_by_kind(found):
 
 def told(found):
     definitions, types = sizes_by_kind(found)
-    last = f"; {types[0]:,} types of the sources, {types[1]:,} lines" if types[0] else ""
+    last = f"; {types[0]:,} {'type' if types[0] == 1 else 'types'} of the sources, {types[1]:,} lines" if types[0] else ""
     return f"{definitions[0]:,} definitions, {definitions[1]:,} lines{last}"
 
 

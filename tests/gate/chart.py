@@ -3,10 +3,10 @@
 
 Usage: chart.py SCRIPT PICTURE [--check] [--program PROGRAM]      (mc_sim, as it was built)
 
-Clients are on the left, the proxy in the middle, servers on the right; time goes down. The picture draws what the program reports of each line
+Clients are on the left, each left of its proxy, servers on the right; time goes down. The picture draws what the program reports of each line
 (`--trace`): bytes that move are arrows, a step at one place is a dot with its words, a lost link is a red break. Bytes on a lost generation of a link
-are dashed. A line that did nothing is grey. If losses are missed, the proxy's column says so. With --check nothing is written: the picture must be as
-it would be drawn, and the last line is 'N passed, M failed'.
+are dashed. A line that did nothing is grey. If losses are missed, the proxies' columns say so. With --check nothing is written: the picture must be
+as it would be drawn, and the last line is 'N passed, M failed'. tests/lib/pool_model.py can take the place of the program.
 """
 import argparse
 import html
@@ -17,9 +17,10 @@ import sys
 
 sys.path.insert(0, str(pathlib.Path(__file__).resolve().parents[1] / "lib"))
 
+from pool_script import CLIENT_EVENTS, LINK_EVENTS
 from suite import built, counted
 
-PROXIES = {"told": "proxy", "missed": "proxy, losses missed"}
+PROXIES = {"told": "", "missed": ", losses missed"}
 COLUMN, LEFT, TOP, ROW = 270, 130, 70, 34
 STYLE = """
 text { font: 13px 'DejaVu Sans Mono', Menlo, monospace; fill: #1b1f24 }
@@ -47,27 +48,45 @@ def lines_of(script, program):
     return said[0].split(" "), losses, [(verdict == "done", words) for _, verdict, words in found]
 
 
+def link_of(word):
+    """The proxy and the server that a link's word names."""
+    proxy, _, place = word.rpartition(":")
+    return int(proxy or 0), int(place)
+
+
 def short(text, length=34):
     return text if len(text) <= length else text[: length - 1] + "\u2026"
 
 
 class Chart:
-    def __init__(self, servers, clients, losses):
-        self.clients = clients
-        self.columns = [f"client {number}" for number in range(clients)] + [PROXIES[losses]] + [f"server {number}" for number in range(servers)]
-        self.generations = [1] * servers
-        self.up = [True] * servers
+    def __init__(self, servers, clients, losses, proxies=1):
+        self.clients, self.proxies = clients, proxies  # the clients of each proxy
+        self.columns = []
+        for proxy in range(proxies):
+            self.columns += [f"client {number}" for number in range(proxy * clients, (proxy + 1) * clients)]
+            self.columns.append(f"proxy{f' {proxy}' if proxies > 1 else ''}{PROXIES[losses]}")
+        self.columns += [f"server {number}" for number in range(servers)]
+        self.servers = [servers] * proxies  # how many each proxy has
+        self.generations = {(proxy, place): 1 for proxy in range(proxies) for place in range(servers)}
+        self.up = dict.fromkeys(self.generations, True)
+        self.gone = set()
         self.parts = []
         self.y = TOP
 
     def x(self, column):
         return LEFT + column * COLUMN
 
-    def proxy(self):
-        return self.x(self.clients)
+    def client(self, number):
+        return self.x(number + number // self.clients)
+
+    def proxy(self, number=0):
+        return self.x((number + 1) * (self.clients + 1) - 1)
+
+    def proxy_of(self, client):
+        return self.proxy(client // self.clients)
 
     def server(self, place):
-        return self.x(self.clients + 1 + place)
+        return self.x(self.proxies * (self.clients + 1) + place)
 
     def write(self, x, words, kind=""):
         self.parts.append(f'<text x="{x}" y="{self.y - 7}" class="{kind}">{html.escape(words)}</text>')
@@ -82,8 +101,8 @@ class Chart:
         self.parts.append(f'<circle class="{kind}" cx="{x}" cy="{self.y - 11}" r="4"/>')
         self.write(x + 10, words, "gone" if kind == "gone" else "")
 
-    def broken(self, place, words):
-        start, end, y = self.proxy(), self.server(place), self.y - 4
+    def broken(self, link, words):
+        start, end, y = self.proxy(link[0]), self.server(link[1]), self.y - 4
         middle = (start + end) / 2
         self.parts.append(f'<path class="broken" d="M {start + 8} {y} L {middle - 14} {y} l 8 -9 l 8 18 l 8 -18 l 8 9 L {end - 8} {y}"/>')
         self.y += 24
@@ -92,64 +111,92 @@ class Chart:
     def add(self, done, words):
         self.y += ROW
         name, _, rest = words.partition(" ")
-        if not done:
-            self.write(self.proxy() + 10, f"nothing: {short(words)}", "nothing")
+        words_of = rest.split(" ", 1 if name == "bytes" else -1)
+        if name in LINK_EVENTS:
+            words_of[0] = link_of(words_of[0])
+        if done:
+            getattr(self, f"on_{name}")(*words_of)
             return
-        getattr(self, f"on_{name}")(*rest.split(" ", 1 if name in ("bytes", "join") else -1))
+        x = self.proxy_of(int(words_of[0])) if name in CLIENT_EVENTS else self.proxy(words_of[0][0] if name in LINK_EVENTS else 0)
+        self.write(x + 10, f"nothing: {short(words)}", "nothing")
 
     def on_bytes(self, client, text):
-        self.arrow(self.x(int(client)), self.proxy(), short(text))
+        self.arrow(self.client(int(client)), self.proxy_of(int(client)), short(text))
 
     def on_gone(self, client):
-        self.dot(self.x(int(client)), "goes", "gone")
+        self.gone.add(int(client))
+        self.dot(self.client(int(client)), "goes", "gone")
 
     def on_turn(self, client):
-        self.dot(self.proxy(), f"takes a request of client {client}")
+        self.dot(self.proxy_of(int(client)), f"takes a request of client {client}")
 
     def on_emit(self, client):
-        self.dot(self.proxy(), f"answers client {client}")
+        self.dot(self.proxy_of(int(client)), f"answers client {client}")
 
     def on_takes(self, client, count):
-        self.arrow(self.proxy(), self.x(int(client)), f"{count} bytes")
+        self.arrow(self.proxy_of(int(client)), self.client(int(client)), f"{count} bytes")
 
-    def is_late(self, place, generation):
-        return not self.up[place] or self.generations[place] != generation
+    def is_late(self, link, generation):
+        return not self.up[link] or self.generations[link] != generation
 
-    def on_toserver(self, place, generation, count):
-        late = self.is_late(int(place), int(generation))
-        self.arrow(self.proxy(), self.server(int(place)), f"{'late: ' if late else ''}{count} bytes of generation {generation}", late)
+    def on_toserver(self, link, generation, count):
+        late = self.is_late(link, int(generation))
+        self.arrow(self.proxy(link[0]), self.server(link[1]), f"{'late: ' if late else ''}{count} bytes of generation {generation}", late)
 
-    def on_serve(self, place, generation, moment):
-        self.dot(self.server(int(place)), f"serves, at {moment}" + (f", generation {generation}" if self.is_late(int(place), int(generation)) else ""))
+    def on_serve(self, link, generation, moment):
+        late = f", generation {generation}{self.whose(link)}" if self.is_late(link, int(generation)) else ""
+        self.dot(self.server(link[1]), f"serves, at {moment}{late}")
 
-    def on_toproxy(self, place, count):
-        self.arrow(self.server(int(place)), self.proxy(), f"{count} bytes")
+    def on_toproxy(self, link, count):
+        self.arrow(self.server(link[1]), self.proxy(link[0]), f"{count} bytes")
 
-    def on_reply(self, place):
-        self.dot(self.proxy(), f"takes a reply of server {place}")
+    def on_reply(self, link):
+        self.dot(self.proxy(link[0]), f"takes a reply of server {link[1]}")
 
-    def on_lost(self, place):
-        self.up[int(place)] = False
-        self.broken(int(place), "the link is lost")
+    def on_lost(self, link):
+        self.up[link] = False
+        self.broken(link, "the link is lost")
 
-    def on_back(self, place):
-        self.up[int(place)] = True
-        self.generations[int(place)] += 1
-        self.arrow(self.proxy(), self.server(int(place)), f"the link is back, generation {self.generations[int(place)]}")
+    def on_back(self, link):
+        self.up[link] = True
+        self.generations[link] += 1
+        self.arrow(self.proxy(link[0]), self.server(link[1]), f"the link is back, generation {self.generations[link]}")
 
-    def on_end(self, place, generation):
-        self.dot(self.server(int(place)), f"sees the end of generation {generation}", "gone")
+    def on_end(self, link, generation):
+        self.dot(self.server(link[1]), f"sees the end of generation {generation}{self.whose(link)}", "gone")
 
     def on_restart(self, place):
-        if self.up[int(place)]:
-            self.on_lost(place)
+        self.lose(link for link in self.up if link[1] == int(place))
         self.dot(self.server(int(place)), "dies, and begins anew with nothing", "gone")
 
-    def on_join(self, address):
-        self.columns.append(f"server {len(self.generations)}")
-        self.generations.append(1)
-        self.up.append(True)
-        self.dot(self.server(len(self.generations) - 1), f"joins: {address}")
+    def on_proxyrestart(self, proxy):
+        for client in range(int(proxy) * self.clients, (int(proxy) + 1) * self.clients):
+            if client not in self.gone:
+                self.on_gone(client)
+        self.dot(self.proxy(int(proxy)), "dies, and begins anew", "gone")
+        self.y += ROW
+        self.lose(link for link in self.up if link[0] == int(proxy))
+
+    def lose(self, links):
+        """The links that are up are lost, one below the other."""
+        for number, link in enumerate(link for link in sorted(links) if self.up[link]):
+            self.y += ROW if number else 0
+            self.on_lost(link)
+
+    def on_join(self, *words):
+        proxy = int(words[0]) if len(words) > 1 else 0
+        place = self.servers[proxy]
+        self.servers[proxy] += 1
+        is_new = (self.server(place) - LEFT) // COLUMN == len(self.columns)
+        self.generations[proxy, place], self.up[proxy, place] = int(is_new), is_new
+        if is_new:
+            self.columns.append(f"server {place}")
+            self.dot(self.server(place), f"joins{f' at proxy {proxy}' if self.proxies > 1 else ''}: {words[-1]}")
+        else:
+            self.dot(self.proxy(proxy), f"learns of server {place}: {words[-1]}")
+
+    def whose(self, link):
+        return f" of proxy {link[0]}" if self.proxies > 1 else ""
 
     def on_drain(self, moment):
         self.dot(self.proxy(), f"all that is left is done, at {moment}")
@@ -177,7 +224,7 @@ def main():
     head, losses, lines = lines_of(given.script.read_bytes(), given.program)
     if head[0] != "pool":
         sys.exit("chart.py: only a pool script has a chart")
-    chart = Chart(int(head[1]), int(head[2]), losses)
+    chart = Chart(int(head[1]), int(head[2]), losses, int(head[5]) if len(head) > 5 else 1)
     for done, words in lines:
         chart.add(done, words)
     if not given.check:

@@ -4,9 +4,9 @@
 Usage: pool_mistakes.py [WORLDS [SEED]]      (400 worlds from seed 1 on)
 
 Each pool below is the plain model with one thing done wrong. It plays the scripts of random worlds (random_world.py), and its output is
-checked by the account alone (`faults_of`), without the model beside it: by the events that were done, the texts, the answers and the
-histories. A mistake passes if the account finds fault with some world. The model itself must be found right in every world. Each line says
-in how many worlds a mistake was noticed; the last line is 'N passed, M failed'.
+checked by the account alone (pool_account.py), without the model beside it: by the events that were done, the texts, the answers and the
+histories. A mistake passes if the account finds fault with some world: its line names the first one by its seed. The model itself must be
+found right in every world. The last line is 'N passed, M failed'.
 """
 
 import pathlib
@@ -14,8 +14,10 @@ import sys
 
 sys.path.insert(0, str(pathlib.Path(__file__).resolve().parents[1] / "lib"))
 
-import pool_model
-from pool_model import LINK_LOST, Awaited, Pool, Script, Tag, faults_of, routed
+from pool_account import faults_of
+from pool_model import Awaited, Link, Pool, Tag
+from pool_requests import LINK_LOST
+from pool_script import ALL, Script
 from random_world import lines_of_world
 from suite import counted
 
@@ -30,7 +32,7 @@ class Forgiving(Pool):
 
     def turn(self, number):
         request, taken = self.next_request(number), self.clients[number].taken
-        for at, (_, line) in enumerate(self.routed(request) if request else []):
+        for at, (_, line) in enumerate(self.routed(number, request) if request else []):
             self.spelled[Tag(number, taken, at)] = line
         done = super().turn(number)
         if done:
@@ -44,23 +46,23 @@ class Forgiving(Pool):
 class SentAgain(Forgiving):
     """Commands that were lost are sent again once the link is back."""
 
-    def back(self, place):
-        site = self.sites[place]
-        waited = getattr(site, "waited", [])
-        done = super().back(place)
+    def back(self, name):
+        link = self.links[name]
+        waited = getattr(link, "waited", [])
+        done = super().back(name)
         if done and waited:
             for tag, line in waited:
-                site.living().going += line
-                site.living().tags.append(tag)
-            site.waited = []
+                link.living().going += line
+                link.living().tags.append(tag)
+            link.waited = []
         return done
 
-    def lost(self, place):
-        site = self.sites[place]
-        waiting = site.waiting()
-        done = super().lost(place)
+    def lost(self, name):
+        link = self.links[name]
+        waiting = link.waiting()
+        done = super().lost(name)
         if done:
-            site.waited = [(tag, self.spelled[tag]) for tag in waiting]
+            link.waited = [(tag, self.spelled[tag]) for tag in waiting]
         return done
 
 
@@ -72,41 +74,42 @@ class KeptAndSent(SentAgain):
     def turn(self, number):
         client = self.clients[number]
         request = self.next_request(number)
-        down = [] if request is None else [(at, place, line) for at, (place, line) in enumerate(self.routed(request)) if not self.sites[place].up]
-        for at, place, line in down:
-            site = self.sites[place]
-            site.waited = getattr(site, "waited", []) + [(Tag(number, client.taken, at), line)]
+        for at, (name, line) in enumerate(self.routed(number, request) if request else []):
+            link = self.links[name]
+            if not link.up:
+                link.waited = getattr(link, "waited", []) + [(Tag(number, client.taken, at), line)]
         return super().turn(number)
 
 
 class WaitingKept(SentAgain):
     """Pending commands are still pending after a loss, so that a reply meets another command."""
 
-    def lost(self, place):
-        site = self.sites[place]
-        if not site.up:
+    def lost(self, name):
+        link = self.links[name]
+        if not link.up:
             return False
-        site.kept = site.waiting()
-        site.up, site.come, site.replied = False, 0, 0
+        link.kept = link.waiting()
+        link.up, link.come, link.replied = False, 0, 0
+        self.sites[name[1]].lost.append((name, link.generation))
         return True
 
-    def back(self, place):
-        site = self.sites[place]
-        done = Pool.back(self, place)
+    def back(self, name):
+        link = self.links[name]
+        done = Pool.back(self, name)
         if done:
-            site.living().behind = getattr(site, "kept", [])
+            link.living().behind = getattr(link, "kept", [])
         return done
 
-    def reply(self, place):
-        site = self.sites[place]
-        behind = getattr(site.living(), "behind", []) if site.up else []
-        replies = site.living().replies[site.replied :] if site.up else []
-        if not replies or site.come < len(replies[0]):
+    def reply(self, name):
+        link = self.links[name]
+        behind = getattr(link.living(), "behind", []) if link.up else []
+        replies = link.living().replies[link.replied :] if link.up else []
+        if not replies or link.come < len(replies[0]):
             return False
-        tags = behind + site.living().tags
-        self.becomes(tags[site.replied], replies[0])
-        site.come -= len(replies[0])
-        site.replied += 1
+        tags = behind + link.living().tags
+        self.becomes(tags[link.replied], replies[0])
+        link.come -= len(replies[0])
+        link.replied += 1
         return True
 
 
@@ -146,26 +149,26 @@ class Doubled(Pool):
 class LateUnwritten(Pool):
     """Late bytes of a lost generation are taken, and no entry is kept."""
 
-    def serve(self, place, generation, moment):
-        site = self.sites[place]
-        count = len(site.history)
-        done = super().serve(place, generation, moment)
-        if done and (not site.up or generation != site.generation):
-            del site.history[count:]
+    def serve(self, name, generation, moment):
+        history = self.sites[name[1]].history
+        count = len(history)
+        done = super().serve(name, generation, moment)
+        if done and not self.links[name].lives(generation):
+            del history[count:]
         return done
 
 
 class LateIgnored(Pool):
     """Late bytes are taken and do nothing, though they have an entry."""
 
-    def serve(self, place, generation, moment):
-        site = self.sites[place]
-        if site.up and generation == site.generation:
-            return super().serve(place, generation, moment)
-        before = site.cache.items, site.cache.counter, site.cache.pending
-        site.cache.items = [item for item in site.cache.items]
-        done = super().serve(place, generation, moment)
-        site.cache.items, site.cache.counter, site.cache.pending = before
+    def serve(self, name, generation, moment):
+        if self.links[name].lives(generation):
+            return super().serve(name, generation, moment)
+        cache = self.sites[name[1]].cache
+        before = cache.items, cache.counter, cache.pending
+        cache.items = [item for item in cache.items]
+        done = super().serve(name, generation, moment)
+        cache.items, cache.counter, cache.pending = before
         return done
 
 
@@ -179,17 +182,20 @@ class RoutedByTheLast(Pool):
             if event[0] == "join":
                 self.last.step(event)
 
-    def routed(self, request):
-        there = len(self.sites)
-        return [(place if place < there else place % there, line) for place, line in routed(request, self.last.ring, there)]
+    def routed(self, number, request):
+        proxy = self.script.proxy_of(number)
+        there = self.rings[proxy].servers
+        for (_, place), line in self.last.routed(number, request):
+            if place < there or request.atoms[0].key is not None:
+                yield (proxy, place % there), line
 
 
 class NeighbourOwns(Pool):
     """A key belongs to the server behind its owner."""
 
-    def routed(self, request):
-        count = len(self.sites)
-        return [(place if request.atoms[0].key is None else (place + 1) % count, line) for place, line in super().routed(request)]
+    def routed(self, number, request):
+        for (proxy, place), line in super().routed(number, request):
+            yield (proxy, place if request.atoms[0].key is None else (place + 1) % self.rings[proxy].servers), line
 
 
 class StoredWhenDown(Pool):
@@ -214,10 +220,10 @@ class AlwaysLost(Pool):
 class LosesTheTaken(Forgiving):
     """A loss makes commands lost that were already replied."""
 
-    def lost(self, place):
-        site = self.sites[place]
-        replied = site.living().tags[: site.replied] if site.up else []
-        done = super().lost(place)
+    def lost(self, name):
+        link = self.links[name]
+        replied = link.living().tags[: link.replied] if link.up else []
+        done = super().lost(name)
         for tag in replied if done else []:
             self.becomes(tag, None)
         return done
@@ -226,10 +232,10 @@ class LosesTheTaken(Forgiving):
 class RisingMoments(Pool):
     """A server never goes back in time."""
 
-    def serve(self, place, generation, moment):
-        site = self.sites[place]
+    def serve(self, name, generation, moment):
+        site = self.sites[name[1]]
         site.latest = max(getattr(site, "latest", 0), moment)
-        return super().serve(place, generation, site.latest)
+        return super().serve(name, generation, site.latest)
 
 
 class OtherBytes(Pool):
@@ -397,10 +403,9 @@ class AnsweredUnserved(Forgiving):
 class LostInvents(Forgiving):
     """A lost command is still answered by a miss."""
 
-    def lost(self, place):
-        site = self.sites[place]
-        waiting = site.waiting()
-        done = super().lost(place)
+    def lost(self, name):
+        waiting = self.links[name].waiting()
+        done = super().lost(name)
         for tag in waiting if done else []:
             if self.spelled[tag].startswith(b"get "):
                 self.becomes(tag, b"END\r\n")
@@ -410,8 +415,8 @@ class LostInvents(Forgiving):
 class ForgetsTheFlush(Pool):
     """A flush goes to the first server alone."""
 
-    def routed(self, request):
-        return [(place, line) for place, line in super().routed(request) if place == 0 or not line.startswith(b"flush_all")]
+    def routed(self, number, request):
+        return [(name, line) for name, line in super().routed(number, request) if name[1] == 0 or not line.startswith(b"flush_all")]
 
 
 class LeavesTheLast(Pool):
@@ -436,12 +441,11 @@ class KeepsTheLate(Pool):
     """A drain serves late bytes of lost generations, before it sees their end."""
 
     def drain(self, moment):
-        for place, site in enumerate(self.sites):
-            for generation in list(site.ways):
-                if not site.up or generation != site.generation:
-                    self.step(("toserver", place, generation, pool_model.ALL))
-                    while self.step(("serve", place, generation, moment)):
-                        pass
+        for site in self.sites:
+            for name, generation in site.lost:
+                self.step(("toserver", name, generation, ALL))
+                while self.step(("serve", name, generation, moment)):
+                    pass
         return super().drain(moment)
 
 
@@ -469,9 +473,12 @@ class KeepsTheWays(Pool):
     """A server that restarts still serves its lost generations."""
 
     def restart(self, place):
-        ways = self.sites[place].ways
+        names = [name for name in self.links if name[1] == place]
+        ways = {name: self.links[name].ways for name in names}
         done = super().restart(place)
-        self.sites[place].ways = ways
+        for name in names:
+            self.links[name].ways = ways[name]
+            self.sites[place].lost += [(name, generation) for generation in ways[name]]
         return done
 
 
@@ -494,12 +501,175 @@ class GoneIsServed(Pool):
         return done
 
 
+# Mistakes between proxies
+
+
+class TakenByAnother(Forgiving):
+    """A reply is taken by another proxy, if a command of that waits at the same server."""
+
+    def becomes(self, tag, outcome):
+        if outcome is not None:
+            place = next(name[1] for name, link in self.links.items() if link.waiting()[:1] == [tag])
+            others = [link.waiting()[0] for name, link in self.links.items() if name[1] == place and link.waiting()]
+            tag = others[(others.index(tag) + 1) % len(others)]
+        super().becomes(tag, outcome)
+
+
+class CountedTogether(Pool):
+    """A server counts the generations of all proxies' links together."""
+
+    def back(self, name):
+        done = super().back(name)
+        if done:
+            link, site = self.links[name], self.sites[name[1]]
+            way = link.ways.pop(link.generation)
+            link.generation = site.counted = max(link.generation, getattr(site, "counted", 1) + 1)
+            link.ways[link.generation] = way
+        return done
+
+
+class LateOfAnother(Pool):
+    """A late byte of one proxy's lost link is taken for another's: lost generations of a server are found by their number alone."""
+
+    def toserver(self, name, generation, count):
+        return super().toserver(self.found(name, generation), generation, count)
+
+    def serve(self, name, generation, moment):
+        return super().serve(self.found(name, generation), generation, moment)
+
+    def found(self, name, generation):
+        lost = [other for other, number in self.sites[name[1]].lost if number == generation]
+        return name if self.links[name].lives(generation) else (lost or [name])[0]
+
+
+class RoutedByTheFirst(Pool):
+    """Each proxy routes by the ring of proxy 0."""
+
+    def routed(self, number, request):
+        proxy = self.script.proxy_of(number)
+        for (_, place), line in super().routed(0, request):
+            yield (proxy, place % self.rings[proxy].servers), line
+
+
+class FlushesUnlearned(Pool):
+    """A flush goes to servers that its proxy has not learned."""
+
+    def routed(self, number, request):
+        proxy = self.script.proxy_of(number)
+        routed = super().routed(number, request)
+        if request.atoms and request.atoms[0].key is None:
+            for place in range(len(routed), len(self.sites)):
+                self.links.setdefault((proxy, place), Link())
+                routed.append(((proxy, place), request.atoms[0].line))
+        return routed
+
+
+class LearnedUp(Pool):
+    """The link to a server that a proxy learns is up at once."""
+
+    def join(self, proxy, address):
+        place = self.rings[proxy].servers
+        super().join(proxy, address)
+        self.links[proxy, place] = Link()
+        return True
+
+
+class AlwaysNew(Pool):
+    """A server that joins at a proxy is a new one, with an empty cache, though another proxy has it."""
+
+    def join(self, proxy, address):
+        place = self.rings[proxy].servers
+        super().join(proxy, address)
+        self.sites[place].cache = self.new_cache()
+        return True
+
+
+class RestartOfTheFirst(Pool):
+    """A server that restarts loses the link of proxy 0, and keeps those of others."""
+
+    def restart(self, place):
+        kept = {name: link for name, link in self.links.items() if name[0] and name[1] == place and link.up}
+        for link in kept.values():
+            link.up = False
+        ways = {name: link.ways for name, link in kept.items()}
+        super().restart(place)
+        for name, link in kept.items():
+            link.up, link.ways = True, {link.generation: ways[name][link.generation]}
+        return True
+
+
+class LostForAll(Pool):
+    """A proxy that loses its link to a server takes the commands of all proxies there for lost."""
+
+    def lost(self, name):
+        done = super().lost(name)
+        for other, link in self.links.items() if done else ():
+            if other[1] == name[1] and link.up:
+                for tag in link.waiting():
+                    self.becomes(tag, None)
+        return done
+
+    def becomes(self, tag, outcome):
+        client = self.clients[tag.client]
+        if tag.request - client.taken + len(client.unanswered) >= 0:
+            super().becomes(tag, outcome)
+
+
+class ProxyKeepsClients(Pool):
+    """A proxy that restarts has its clients still."""
+
+    def proxyrestart(self, proxy):
+        there = [client for client in self.clients if not client.gone]
+        super().proxyrestart(proxy)
+        for client in there:
+            client.gone = False
+        return True
+
+
+class ProxyKeepsLinks(Pool):
+    """A proxy that restarts has its links still."""
+
+    def proxyrestart(self, proxy):
+        for number in self.script.clients_of(proxy):
+            self.gone(number)
+        return True
+
+
+class ProxyTakesAll(Pool):
+    """All proxies go with one that restarts."""
+
+    def proxyrestart(self, proxy):
+        for each in range(len(self.rings)):
+            super().proxyrestart(each)
+        return True
+
+
+class NumberedByTheProxy(Pool):
+    """Each proxy counts its clients from 0."""
+
+    def told(self, done):
+        told = super().told(done)
+        for history in told.histories:
+            history[:] = [entry._replace(client=entry.client % self.script.clients) for entry in history]
+        return told
+
+
+class DrainsTheFirst(Pool):
+    """A drain leaves out the links of proxies other than 0."""
+
+    def does(self, done, *event):
+        is_of_another = event[0] in ("toserver", "serve", "toproxy", "reply") and event[1][0] != 0
+        return not is_of_another and super().does(done, *event)
+
+
 MISTAKES = [
     SentAgain, KeptAndSent, WaitingKept, OutOfOrder, Padded, Doubled, LateUnwritten, LateIgnored, RoutedByTheLast, NeighbourOwns,
     StoredWhenDown, AlwaysLost, LosesTheTaken, RisingMoments, OtherBytes, Unfinished, OtherText, SilentFaults, LostOften, LostStored,
     MissTold, MissedWhole, HiddenTold, HidesAll, FirstShown, SaysQuietMisses, OtherLosses, ToldRefused,
     LaterFirst, OthersFirst, AnsweredUnserved, LostInvents, ForgetsTheFlush, LeavesTheLast, DrainsAtZero, KeepsTheLate,
-    KeepsTheCache, KeepsTheNumbers, KeepsTheWays, ForgetsItsHistory,
+    KeepsTheCache, KeepsTheNumbers, KeepsTheWays, ForgetsItsHistory, GoneIsServed,
+    TakenByAnother, CountedTogether, LateOfAnother, RoutedByTheFirst, FlushesUnlearned, LearnedUp, AlwaysNew, RestartOfTheFirst, LostForAll,
+    ProxyKeepsClients, ProxyKeepsLinks, ProxyTakesAll, NumberedByTheProxy, DrainsTheFirst,
 ]  # fmt: skip
 
 
@@ -509,14 +679,14 @@ def told_of(kind, script):
 
 
 def main(worlds=400, first=1):
-    scripts = [Script(lines_of_world(seed)) for seed in range(first, first + worlds)]
-    wrong = [number for number, script in enumerate(scripts) if faults_of(script, told_of(Pool, script))]
-    print(f"the model itself: {len(wrong)} of {worlds}")
+    scripts = {seed: Script(lines_of_world(seed)) for seed in range(first, first + worlds)}
+    wrong = [seed for seed, script in scripts.items() if faults_of(script, told_of(Pool, script))]
+    print(f"The model itself: wrong in {len(wrong)} of {worlds} worlds.")
     passed = [not wrong]
     for kind in MISTAKES:
-        noticed = sum(bool(faults_of(script, told_of(kind, script))) for script in scripts)
-        print(f"{kind.__doc__} {noticed} of {worlds}")
-        passed.append(noticed > 0)
+        noticed = next((seed for seed, script in scripts.items() if faults_of(script, told_of(kind, script))), None)
+        print(f"{kind.__doc__} {'Not noticed.' if noticed is None else f'Seed {noticed}.'}")
+        passed.append(noticed is not None)
     return counted(passed)
 
 

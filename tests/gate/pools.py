@@ -1,21 +1,25 @@
 #!/usr/bin/env python3
-"""Checks the output of a world over random worlds: proxy, servers, links and clients, with all that can happen to them.
+"""Checks the output of a world over random worlds: proxies, servers, links and clients, with all that can happen to them.
 
 Usage: pools.py [--worlds N] [--seed S] [--losses told|missed] [--program PROGRAM]      (200 worlds from seed 1 on; mc_sim as it was built)
        pools.py --write SEED [--losses told|missed]                                     (writes the script of a seed)
 
+tests/lib/pool_model.py can take the place of the program: then the account alone is checked, of the model itself.
+
 The program plays the script of a random world (random_world.py) with `--account`, and then two things are checked. Each event was done if
-and only if a plain model of a pool does it, and left the same texts, answers and histories (pool_model.py, `Pool`). And the account holds
-of the output, by the events that were done alone (`faults_of`), those that the model does in each drain among them. After a drain each
+and only if a plain model of a pool does it, and left the same texts, answers and histories (pool_model.py). And the account holds
+of the output, by the events that were done alone (pool_account.py), those that the model does in each drain among them. After a drain each
 whole request of each client that has not gone is answered, and nothing that a pool does by itself applies. What clients are answered about
 losses is the world's own choice, or with --losses the same in all. At the first world that differs the script is made shorter while it
-still does, and is printed with its faults; the exit status is then 1. The last line is 'N passed, M failed', in worlds.
+still does, and is printed with its faults; the exit status is then 1. Of each world one line is changed too: the program must refuse that
+line if and only if pool_script.py does. The last line is 'N passed, M failed', in worlds.
 """
 
 import argparse
 import collections
 import itertools
 import pathlib
+import random
 import re
 import subprocess
 import sys
@@ -23,7 +27,10 @@ import sys
 sys.path.insert(0, str(pathlib.Path(__file__).resolve().parents[1] / "lib"))
 
 from model import unescaped
-from pool_model import LOSSES, BadLine, Entry, Script, Told, answered, faults_of, played, requests_of
+from pool_account import faults_of
+from pool_model import Entry, Told, played
+from pool_requests import answered, requests_of
+from pool_script import LOSSES, WORDS, BadLine, Script
 from random_world import lines_of_world
 from suite import are_built, built
 
@@ -35,9 +42,13 @@ class Failed(Exception):
     """A program that did not play a script."""
 
 
-def told_by(program, lines):
+def run_of(program, lines):
     script = "\n".join([*lines, ""]).encode("latin-1")
-    run = subprocess.run([program, "--account"], input=script, capture_output=True)
+    return subprocess.run([program, "--account"], input=script, capture_output=True)
+
+
+def told_by(program, lines):
+    run = run_of(program, lines)
     if run.returncode:
         raise Failed(f"status {run.returncode}, {run.stderr.decode()}")
     return read_told(run.stdout.decode("latin-1"))
@@ -91,9 +102,17 @@ def left_after_drain(script, told):
     if any(name not in INNER for name in names[last + 1 :]):
         return []
     wrong = [f"event {at}, {script.events[at]}: done after a drain" for at in range(last + 1, len(names)) if told.done[at]]
-    gone = {event[1] for event, done in zip(script.events, told.done) if event[0] == "gone" and done}
-    there = [] if last == len(names) else [client for client in range(script.clients) if client not in gone]
+    there = [] if last == len(names) else clients_left(script, told)
     return wrong + [f"client {client} is not answered in full" for client in there if not is_answered(client, script.losses, told)]
+
+
+def clients_left(script, told):
+    """The clients that have not gone, and whose proxy has not restarted."""
+    left = set(script.all_clients())
+    for event, done in zip(script.events, told.done):
+        if event[0] in ("gone", "proxyrestart") and done:
+            left -= {event[1]} if event[0] == "gone" else {*script.clients_of(event[1])}
+    return left
 
 
 def is_answered(client, losses, told):
@@ -124,12 +143,44 @@ def wrong_in(lines, program):
     """The faults when a program plays a script; none if that is no script."""
     try:
         script = Script(lines)
-    except (BadLine, ValueError):
+    except BadLine:
         return []
     try:
         return differences(script, told_by(program, lines))
     except Failed as failed:
         return [str(failed)]
+
+
+NUMBERS = [0, 1, 2, 3, 4, 63, 64, 65, 1024, 1025, 2**63 - 1, 2**63, 2**64 - 1, 2**64]
+
+
+def changed(dice, line):
+    """A line with a word changed, left out or doubled."""
+    words = line.split(" ")
+    at = dice.randrange(len(words))
+    word, name = words[at], dice.choice(["point", "losses", "join", "pool", *WORDS])
+    others = [[], [word, word], [f"1:{word}"], [f"0:{word}"], [f"{word}:0"], [f":{word}"], [f"{word}:"], ["0" * 19 + word], ["all"], [""], [name]]
+    words[at : at + 1] = dice.choice([[str(number)] for number in dice.sample(NUMBERS, 4)] + others)
+    return " ".join(words)
+
+
+def refusal_of(lines):
+    """The exit status for a script, and what is said of its bad line, if it has one."""
+    try:
+        Script(lines)
+    except BadLine as bad:
+        return 2, f"mc_sim: {bad}\n"
+    return 0, ""
+
+
+def wrong_if_changed(seed, lines, program):
+    """The fault if the program does not refuse a script with a changed line as the model does."""
+    dice = random.Random(f"changed {seed}")
+    at = 0 if dice.random() < 0.1 else dice.randrange(len(lines))
+    lines = [*lines[:at], changed(dice, lines[at])]
+    run = run_of(program, lines)
+    got, wanted = (run.returncode, run.stderr.decode()), refusal_of(lines)
+    return [] if got == wanted else [f"pools.py --seed {seed}, a line changed: {wanted}, and not {got}:", *lines]
 
 
 def shortened(lines, program):
@@ -168,6 +219,10 @@ def main():
             lines = shortened(lines, words.program)
             print("\n".join([f"pools.py --seed {seed}:", *lines, *wrong_in(lines, words.program)]))
             print(f"{passed} passed, 1 failed")
+            return 1
+        wrong = wrong_if_changed(seed, lines, words.program)
+        if wrong:
+            print("\n".join([*wrong, f"{passed} passed, 1 failed"]))
             return 1
         events += len(Script(lines).events)
     print(f"{words.worlds} worlds of {events} events are as they should be\n{words.worlds} passed, 0 failed")

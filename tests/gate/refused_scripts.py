@@ -30,6 +30,7 @@ sys.path.insert(0, str(pathlib.Path(__file__).resolve().parents[1] / "lib"))
 import pool_model
 import refusing
 from model import Fault, Server, is_of_pool, lines_of, printed, settings
+from pool_script import Script
 from suite import are_built, built, counted, examples
 
 NO_MEMORY = "SERVER_ERROR out of memory storing object"
@@ -73,7 +74,7 @@ class Refusing(Server):
 def printed_with(stores, script):
     lines = lines_of(script)
     if is_of_pool(script):
-        return pool_model.printed(pool_model.played(pool_model.Script(lines), stores.server))
+        return pool_model.printed(pool_model.played(Script(lines), stores.server))
     return printed(lines, stores.server(*settings(lines)))
 
 

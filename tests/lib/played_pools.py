@@ -1,8 +1,8 @@
-"""A pool of one server, played by a script on a socket of this machine: a right one, and some that make a mistake each. They test a checker
-of pools.
+"""A pool of one server, played by a script on sockets of this machine, one for each proxy: a right one, and some that make a mistake each. They
+test a checker of pools.
 
-    with Relay(seed) as pool:
-        ..pool.connected()..
+    with Relay(seed, proxies=2) as pool:
+        ..pool.connected(0)..
 
 Each request is done by the model of a server (model.py), one at a time. Now and then the link to the server is lost with a request, which is
 answered `SERVER_ERROR link lost`: it is done now, later or never.
@@ -15,7 +15,7 @@ import threading
 
 from live_pool import LOST
 from model import Connection, Server
-from pool_model import Reader
+from pool_requests import Reader
 from servers import HOST, connected
 
 BUDGET, ITEMS = 67108864, 64
@@ -24,37 +24,40 @@ SECONDS_TO_SWAP = 0.01
 
 
 class Relay:
-    """A pool that makes no mistake. `restart` has its server begin anew."""
+    """A pool that makes no mistake. `restart` has its server begin anew. `proxy_of` has the proxy of each connection."""
 
-    def __init__(self, seed, losses="told"):
+    def __init__(self, seed, losses="told", proxies=1):
         self.dice, self.losses, self.lock = random.Random(seed), losses, threading.RLock()
-        self.cache, self.late, self.closes = self.new_cache(), [], []
-        self.listener = socket.create_server((HOST, 0))
-        self.port = self.listener.getsockname()[1]
+        self.cache, self.late, self.proxy_of = self.new_cache(), [], {}
+        self.listeners = [socket.create_server((HOST, 0)) for _ in range(proxies)]
         self.ended = False
-        threading.Thread(target=self.accepts, daemon=True).start()
+        for proxy in range(proxies):
+            threading.Thread(target=self.accepts, args=(proxy,), daemon=True).start()
 
     def __enter__(self):
         return self
 
     def __exit__(self, *_):
         self.ended = True
-        with contextlib.suppress(OSError):
-            self.listener.shutdown(socket.SHUT_RDWR)
-        self.listener.close()
-        for connection in self.closes:
+        self.closes(self.listeners)
+        self.closes(list(self.proxy_of))
+
+    @staticmethod
+    def closes(sockets):
+        for each in sockets:
             with contextlib.suppress(OSError):
-                connection.shutdown(socket.SHUT_RDWR)
-            connection.close()
+                each.shutdown(socket.SHUT_RDWR)
+            each.close()
 
-    def connected(self):
-        return connected(self.port)
+    def connected(self, number):
+        """A connection of the client of a number, to its proxy."""
+        return connected(self.listeners[number % len(self.listeners)].getsockname()[1])
 
-    def accepts(self):
+    def accepts(self, proxy):
         with contextlib.suppress(OSError):
             while not self.ended:
-                connection, _ = self.listener.accept()
-                self.closes.append(connection)
+                connection, _ = self.listeners[proxy].accept()
+                self.proxy_of[connection] = proxy
                 threading.Thread(target=self.serves, args=(connection,), daemon=True).start()
 
     def serves(self, connection):
@@ -126,9 +129,9 @@ class SendsAgain(Relay):
 class SwapsReplies(Relay):
     """Replies of two clients are swapped, if they have one form: the value, or the number, is that of the other's request."""
 
-    def __init__(self, *words):
+    def __init__(self, *words, **named):
         self.waits, self.changed = None, threading.Condition()
-        super().__init__(*words)
+        super().__init__(*words, **named)
 
     def answer(self, connection, text):
         reply = super().answer(connection, text)
@@ -170,9 +173,9 @@ def with_key_of(reply, other):
 class ShowsOlder(Relay):
     """A get is answered as another of the same key was, a while before."""
 
-    def __init__(self, *words):
+    def __init__(self, *words, **named):
         self.before = {}
-        super().__init__(*words)
+        super().__init__(*words, **named)
 
     def executed(self, text):
         reply = super().executed(text)
@@ -255,4 +258,45 @@ class CountsForNothing(Relay):
         return reply
 
 
+# Mistakes between proxies
+
+
+class AnotherServer(Relay):
+    """Each proxy takes another server for the owner of a key."""
+
+    def __init__(self, *words, **named):
+        super().__init__(*words, **named)
+        self.restart()
+
+    def restart(self):
+        with self.lock:
+            self.caches = [self.new_cache() for _ in self.listeners]
+
+    def answer(self, connection, text):
+        with self.lock:
+            self.cache = self.caches[self.proxy_of[connection]]
+            return super().answer(connection, text)
+
+
+class RemembersGets(Relay):
+    """A proxy answers a get as it last did, if no other command on that key has passed through it since."""
+
+    def __init__(self, *words, **named):
+        self.known = {}
+        super().__init__(*words, **named)
+
+    def answer(self, connection, text):
+        key = self.proxy_of[connection], text.split()[1]
+        with self.lock:
+            if not text.startswith(b"get ") or text.count(b" ") > 1:
+                self.known.pop(key, None)
+            elif key in self.known and self.errs():
+                return self.known[key]
+            reply = super().answer(connection, text)
+            if reply.startswith(b"VALUE ") and text.startswith(b"get ") and text.count(b" ") == 1:
+                self.known[key] = reply
+            return reply
+
+
+MISTAKES_OF_TWO = (AnotherServer, RemembersGets)
 MISTAKES = (SendsAgain, SwapsReplies, ShowsOlder, ComesBack, KeepsItems, AnswersAhead, ComparesNothing, GivesTwice, CountsForNothing)

@@ -1,16 +1,18 @@
 """Random worlds: pools whose clients send commands of all kinds (random_script.py), whole and in pieces, and with all events that a pool script
-can have, mostly if they apply. A world has 1 to 5 servers and 1 to 20 clients, points of its own or libketama's, caches from tiny to large. In
-half of the worlds losses are missed, unless a caller asks for one of the two. Many end with a drain, and a try of each event that a pool does by
-itself.
+can have, mostly if they apply. A world has 1 to 4 proxies, half of them one, 1 to 5 servers, 1 to 20 clients of each proxy, points of its own or
+libketama's, caches from tiny to large. In half of the worlds losses are missed, unless a caller asks for one of the two. Many end with a drain,
+and a try of each event that a pool does by itself.
 """
 
 import random
 
 from model import escaped
-from pool_model import ALL, LOSSES, Awaited, Pool, Script, event_of
+from pool_model import MOST_CONNECTIONS, Awaited, Pool
+from pool_script import ALL, CLIENT_EVENTS, LOSSES, Script
 from random_script import Scene, command
 from rings import hash_of
 
+PROXIES = [1, 1, 1, 2, 3, 4]
 BUDGETS = [1, 66, 70, 140, 200, 1000, 8192, 67108864, 1099511627776]
 LIMITS = [1, 2, 5, 40, 1000, 16777216]
 
@@ -54,32 +56,60 @@ def losses_of_world(seed, losses):
 
 
 class World:
-    """A random world: its script, and the pool that has played it so far."""
+    """A random world: its script, and the pool that has played it so far. What is of proxies has dice of its own."""
 
     def __init__(self, seed, losses=None):
         self.dice = dice = random.Random(seed)
+        self.others = others = random.Random(f"proxies {seed}")
+        self.proxies = others.choice(PROXIES)
         servers, clients = dice.randrange(1, 6), dice.choice([1, 1, 2, 3, 5, 8, 20])
-        self.lines = [f"pool {servers} {clients} {dice.choice(BUDGETS[-3:] + BUDGETS)} {dice.choice(LIMITS)}"]
+        if self.proxies > 1:
+            servers, clients = others.choice([1, 1, 2, servers]), others.choice([1, 1, 1, 2, 3, clients])
+        head = f"pool {servers} {clients} {dice.choice(BUDGETS[-3:] + BUDGETS)} {dice.choice(LIMITS)}"
+        head += f" {self.proxies}" if self.proxies > 1 or others.random() < 0.1 else ""
         points = [f"point {point:08x} {place}" for point, place in points_of_world(dice, servers)]
         said = losses_of_world(seed, losses)
-        self.lines += points + said if seed % 2 else said + points
-        self.pool = Pool(Script(self.lines))
+        self.lines = [head, *(points + said if seed % 2 else said + points)]
+        self.script = Script(self.lines)
+        self.pool = Pool(self.script)
         self.scene = PoolScene(dice, self.pool)
-        self.left = [b""] * clients  # the rest of a client's command
-        lost = dice.choice([0, 0.1, 0.3, 1])
-        restart = random.Random(f"restarts {seed}").choice([0, 0, 0.1, 0.6])
-        self.chances = {
-            "bytes": 6, "turn": 6, "toserver": 5, "serve": 6, "toproxy": 5, "reply": 6, "emit": 6, "takes": 2,
-            "lost": lost, "back": max(lost, restart) * 2, "end": lost * dice.choice([0.2, 1]),
-            "gone": dice.choice([0, 0, 0.05]), "join": dice.choice([0, 0, 0.1]), "drain": dice.choice([0, 0, 0.05, 0.3]),
-            "restart": restart,
-        }  # fmt: skip
+        self.left = [b""] * len(self.pool.clients)  # the rest of a client's command
+        self.chances = self.chances_of_world(seed)
         self.greed = dice.choice([0.2, 0.7, 1])  # how often all bytes move
         self.blind = dice.choice([0, 0.05, 0.2])  # how often an event is any event
+        self.spelled = others.choice([0, 0.5, 1])  # how often a link of proxy 0 is named with its proxy
+
+    def chances_of_world(self, seed):
+        """How often each event is chosen, beside the others."""
+        dice, others = self.dice, self.others
+        lost = dice.choice([0, 0.1, 0.3, 1])
+        restart = random.Random(f"restarts {seed}").choice([0, 0, 0.1, 0.6])
+        chances = {
+            "bytes": 6, "turn": 6, "toserver": 5, "serve": 6, "toproxy": 5, "reply": 6, "emit": 6, "takes": 2,
+            "lost": lost, "back": max(lost * 2, restart * 5), "end": lost * dice.choice([0.2, 1]),
+            "gone": dice.choice([0, 0, 0.05]), "join": dice.choice([0, 0, 0.1]), "drain": dice.choice([0, 0, 0.05, 0.3]),
+            "restart": restart, "proxyrestart": others.choice([0, 0, 0.01]),
+        }  # fmt: skip
+        if self.proxies > 1:
+            chances["cut"] = others.choice([0, 0.1, 0.4])
+            chances["join"] = others.choice([0, 0.3, 1])
+            chances["proxyrestart"] = others.choice([0, 0, 0.03, 0.1])
+            chances["back"] = max(chances["back"], chances["join"], chances["cut"] * self.proxies)
+        return chances
 
     def add(self, line):
         self.lines.append(line)
-        return self.pool.step(event_of(line))
+        return self.pool.step(self.script.read(line))
+
+    def named(self, number):
+        """A client, a server or a link as a word."""
+        if isinstance(number, int):
+            return str(number)
+        proxy, place = number
+        return f"{proxy}:{place}" if proxy or self.others.random() < self.spelled else str(place)
+
+    def add_event(self, name, *words):
+        return self.add(" ".join([name, *(word if isinstance(word, str) else self.named(word) for word in words)]))
 
     # When events apply
 
@@ -87,10 +117,10 @@ class World:
         return [number for number, client in enumerate(self.pool.clients) if not client.gone and test(client)]
 
     def ways_that(self, test):
-        return [(place, number) for place, site in enumerate(self.pool.sites) for number, way in site.ways.items() if test(way)]
+        return [(name, number) for name, link in self.pool.links.items() for number, way in link.ways.items() if test(way)]
 
-    def sites_that(self, test):
-        return [(place,) for place, site in enumerate(self.pool.sites) if test(site)]
+    def links_that(self, test):
+        return [(name,) for name, link in self.pool.links.items() if test(link)]
 
     def places(self, name):
         """The numbers at which an event of this name applies, or may."""
@@ -108,25 +138,27 @@ class World:
         if name == "serve":
             return self.ways_that(lambda way: way.connection.unread)
         if name == "end":
-            lost = self.ways_that(lambda way: True)
-            return [(p, number) for p, number in lost if not pool.sites[p].up or pool.sites[p].generation != number]
+            return [at for site in pool.sites for at in site.lost]
+        if name in ("restart", "proxyrestart"):
+            return [(number,) for number in range(len(pool.sites) if name == "restart" else self.proxies)]
         tests = {
-            "toproxy": lambda site: site.up and site.living().connection.output,
-            "reply": lambda site: site.up and site.come,
-            "lost": lambda site: site.up,
-            "back": lambda site: not site.up,
-            "restart": lambda site: True,
+            "toproxy": lambda link: link.up and link.living().connection.output,
+            "reply": lambda link: link.up and link.come,
+            "lost": lambda link: link.up,
+            "back": lambda link: not link.up,
         }
-        return self.sites_that(tests[name])
+        return self.links_that(tests[name])
 
     def any_place(self, name):
         dice = self.dice
-        if name in ("bytes", "gone", "turn", "emit", "takes"):
+        if name in CLIENT_EVENTS:
             return (dice.randrange(len(self.pool.clients)),)
-        place = dice.randrange(len(self.pool.sites))
+        if name in ("restart", "proxyrestart"):
+            return (dice.randrange(len(self.pool.sites) if name == "restart" else self.proxies),)
+        link = dice.choice(list(self.pool.links))
         if name in ("toserver", "serve", "end"):
-            return place, dice.choice([0, 1, dice.randrange(self.pool.sites[place].generation + 2), ALL])
-        return (place,)
+            return link, str(dice.choice([0, 1, dice.randrange(self.pool.links[link].generation + 2), ALL]))
+        return (link,)
 
     # The events
 
@@ -152,12 +184,30 @@ class World:
         self.left[client] = text[size:]
         return escaped(text[:size])
 
+    def join(self):
+        """A server joins at a proxy: a new one, or the next of those that another proxy has, by its address."""
+        behind = [proxy for proxy, ring in enumerate(self.pool.rings) if ring.servers < len(self.pool.sites)]
+        proxy = self.others.choice(behind if behind and self.others.random() < 0.5 else range(self.proxies))
+        place = self.pool.rings[proxy].servers
+        if place >= (9 if self.proxies == 1 else 6):
+            return
+        address = f"{self.dice.choice(['127.0.0.1', 'cache-2', 'b.example'])}:{20000 + place}"
+        known = [addresses[place] for addresses in self.script.addresses if place < len(addresses)]
+        address = known[0] if known else address
+        self.add(f"join {address}" if proxy == 0 and self.others.random() >= self.spelled else f"join {proxy} {address}")
+
+    def cut(self):
+        """All proxies lose their links to a server."""
+        place = self.others.randrange(len(self.pool.sites))
+        for name in self.pool.links:
+            if name[1] == place:
+                self.add_event("lost", name)
+
     def happen(self):
         dice = self.dice
         name = dice.choices(list(self.chances), list(self.chances.values()))[0]
-        if name == "join":
-            if len(self.pool.sites) < 9:
-                self.add(f"join {dice.choice(['127.0.0.1', 'cache-2', 'b.example'])}:{20000 + len(self.pool.sites)}")
+        if name in ("join", "cut"):
+            getattr(self, name)()
             return
         if name == "drain":
             self.scene.pass_time()
@@ -170,12 +220,15 @@ class World:
         self.scene.pass_time()
         tail = {"bytes": lambda: self.text(numbers[0]), "serve": lambda: self.scene.moment}
         tail.update(dict.fromkeys(("toserver", "toproxy", "takes"), self.count))
-        words = [name, *numbers] + ([tail[name]()] if name in tail else [])
-        self.add(" ".join(str(word) for word in words))
+        self.add_event(name, *numbers, *([tail[name]()] if name in tail else []))
 
     def crowd(self):
-        """One of the marks is reached at which a turn waits: requests that are not answered, unsent bytes to a client or on a link."""
+        """One of the marks is reached at which a turn waits: requests that are not answered, unsent bytes to a client or on a link. Or a server
+        has as many connections as it can."""
         client = self.dice.randrange(len(self.pool.clients))
+        if self.others.random() < 0.2:
+            self.connect()
+            return
         kind = self.dice.choice(["requests", "client", "link"])
         big = b"set big 0 0 1000000\r\n" + b"v" * 1000000 + b"\r\n"
         if kind == "requests":
@@ -187,6 +240,15 @@ class World:
             self.take(client, b"get key1\r\n" * 3, 3)
         else:
             self.take(client, big * 10, 10)
+
+    def connect(self):
+        """Links of all proxies to a server are lost and back more often than it has room for connections."""
+        place = self.others.randrange(self.pool.rings[0].servers)
+        names = [name for name in self.pool.links if name[1] == place]
+        for _ in range(MOST_CONNECTIONS + 5):
+            name = self.others.choice(names)
+            self.add_event("lost", name)
+            self.add_event("back", name)
 
     def take(self, client, text, turns):
         self.add(f"bytes {client} {escaped(text)}")
@@ -201,8 +263,8 @@ class World:
             for name in ("turn", "toserver", "serve", "toproxy", "reply", "emit") + ("takes",) * takes:
                 for numbers in self.places(name):
                     tail = {"serve": self.scene.moment}.get(name, "all")
-                    words = [name, *numbers] + ([tail] if name in ("toserver", "serve", "toproxy", "takes") else [])
-                    going |= bool(self.add(" ".join(str(word) for word in words)))
+                    words = [tail] if name in ("toserver", "serve", "toproxy", "takes") else []
+                    going |= bool(self.add_event(name, *numbers, *words))
 
     def drain(self):
         self.add(f"drain {self.scene.moment}")
@@ -212,12 +274,12 @@ class World:
         for client in range(len(self.pool.clients)):
             for event in ("turn {}", "emit {}", "takes {} all"):
                 self.add(event.format(client))
-        for place, site in enumerate(self.pool.sites):
-            for generation in range(1, site.generation + 1):
-                for event in ("toserver {} {} all", "serve {} {} 100", "end {} {}"):
-                    self.add(event.format(place, generation))
-            for event in ("toproxy {} all", "reply {}"):
-                self.add(event.format(place))
+        for name, link in self.pool.links.items():
+            for generation in range(1, link.generation + 1):
+                for event, *words in (("toserver", "all"), ("serve", 100), ("end",)):
+                    self.add_event(event, name, generation, *words)
+            self.add_event("toproxy", name, "all")
+            self.add_event("reply", name)
 
     def played(self):
         dice = self.dice

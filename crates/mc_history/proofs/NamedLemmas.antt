@@ -100,10 +100,3 @@ named_in place order e number =
     ∙ ap (λ (o : Option TakenRequest). command_in o c.1.atom) (get_last (entries_of e.session order) e e.request number)
     ∙ h.2)
     (whole_from place e.session e.request 0 (route_of_taken e.ring e.what) [] (route_of_taken e.ring e.what) refl refl)
-
--- the commands of an order since a request are among all of them
-pub named_since : (place since : ℕ) (order : Order) → Each (IsNamed place order) (commands_to place order) → Each (IsNamed place order) (commands_to place (drop since order))
-named_since place since order h =
-    let whole : commands_to place order ≡ commands_to place (take since order) ++ commands_to place (drop since order) =
-    ap (λ (es : Order). commands_to place es) (sym (take-append-drop since order)) ∙ commands-append place (take since order) (drop since order) in
-    each_back (IsNamed place order) (commands_to place (take since order)) (commands_to place (drop since order)) (subst (λ (cs : List Tagged). Each (IsNamed place order) cs) whole h)

@@ -11,6 +11,7 @@ use Rattle.mc_registers.specs.Guarantees.{AreQuiet, may_have_written, update_in}
 use Rattle.mc_registers.specs.Registers.{Done}
 use Rattle.mc_registers.proofs.GuaranteeLemmas.{adds_exclude}
 use Rattle.mc_registers.proofs.HitLemmas.{steady-told}
+use Rattle.mc_world.specs.Homes.{Homes}
 use Rattle.mc_world.specs.Logs.{Log}
 use Rattle.mc_linearizable.specs.Linearizable.{Executed, IsLinearizablePool}
 use Rattle.mc_linearizable.specs.Clients.{AnAddExcludes, AreRecorded, ComeBetween, NoneMayHaveWritten}
@@ -29,14 +30,14 @@ are_quiet order histories key a b (x ∷ xs) (done ∷ all) none between told = 
   are_quiet order histories key a b xs all none between.1 told.1,
 )
 
-pub add_excludes : (losses : Losses) (counter : ℕ) (order : Order) (texts outs : ℕ → List ℕ) (histories : ℕ → List Entry) (log : Log)
-    → IsLinearizablePool losses counter order texts outs histories log → (key : List ℕ) → AnAddExcludes order histories log key
-add_excludes losses counter order texts outs histories log pool key first add adds done none between come all last told tells number body steady =
+pub add_excludes : (home : Homes) (losses : Losses) (counter : ℕ) (order : Order) (texts outs : ℕ → List ℕ) (histories : ℕ → List Entry) (log : Log)
+    → IsLinearizablePool home losses counter order texts outs histories log → (key : List ℕ) → AnAddExcludes order histories log key
+add_excludes home losses counter order texts outs histories log pool key first add adds done none between come all last told tells number body steady =
     let quiet : AreQuiet all = are_quiet order histories key first add between all none come told in
     let same = recorded-atom order histories key add last tells in
     let updates : update_in last.atom ≡ Some (Store Add adds.0 adds.1 adds.2 adds.3 adds.4) = ap (λ (a : Atom (List ℕ)). update_in a) same ∙ adds.5 in
     elim (steady-told all last number (Some body) Add adds.0 adds.1 adds.2 adds.3 adds.4 steady updates) [
       | inl stored ↦ absurd (true≢false (sym stored ∙ adds_exclude number body all last adds.0 adds.1 adds.2 adds.3 adds.4 steady quiet updates))
       | inr refused ↦ absurd (refused_apart add.atom (Store Add adds.0 adds.1 adds.2 adds.3 adds.4) last.reply done.0 adds.5 refused done.2
-          (run_says counter order histories log key (pool.keys key) add last done.0 tells done.1))
+          (run_says home counter order histories log key (pool.keys key) add last done.0 tells done.1))
     ]

@@ -27,7 +27,7 @@ use Rattle.mc_world.proofs.Log.LifeLemmas.{legal_unrestarted}
 use Rattle.mc_history.specs.declared.entries.Entry.{Entry}
 use Rattle.mc_history.specs.Histories.{IsLegal, tag_in}
 use Rattle.mc_pool_laws.proofs.MissExample.{get_asked, get_key}
-use Rattle.mc_pool_laws.proofs.NeedLemmas.{a_cache, loses_one, one_server, outs_of, puts_one, returns_one, takes_one}
+use Rattle.mc_pool_laws.proofs.NeedLemmas.{a_cache, loses_one, one_home, one_server, outs_of, puts_one, returns_one, takes_one}
 use Rattle.mc_linearizable.specs.Linearizable.{ComesFirst, Executed}
 use Rattle.mc_linearizable.specs.Clients.{ComesBetween, IsGet, ShowsValue, StoresWhole, WasAnsweredBy, WasDone}
 use Rattle.mc_linearizable.proofs.SmallAccounts.{IsKnown, IsSmall, asked_of, at_first, entry_of, first_text, one_ring, puts_if, replied_as, small_accounts, store_asked, store_of, to_first, two_histories}
@@ -70,7 +70,7 @@ abbrev early_history : List Entry
 early_history = stored_a ∷ found_a ∷ stored_b ∷ []
 
 abbrev serves_again : Logged
-serves_again = Happened (ServerTurn 0 2 5)
+serves_again = Happened (ServerTurn 0 0 2 5)
 
 abbrev early_log : Log
 early_log =
@@ -142,7 +142,7 @@ early_small = record {
       ap (λ (v : Bool). (if v then 5 ∷ [] else []) ++ ((if v then 5 ∷ [] else []) ++ ((if v then 5 ∷ [] else []) ++ []))) (sym differ);
 }
 
-early_accounts : Accounts Told one_server a_cache early_order (first_text early_text) (outs_of Told early_order early_log) (two_histories early_history []) early_log
+early_accounts : Accounts one_home Told one_server a_cache early_order (first_text early_text) (outs_of Told early_order early_log) (two_histories early_history []) early_log
 early_accounts = small_accounts Told one_server a_cache early_order early_text early_history [] early_log early_small
 
 put_out : outs_of Told early_order early_log 0 ≡ codes "STORED\r\nVALUE k 0 1\r\na\r\nEND\r\nSTORED\r\n"
@@ -194,7 +194,7 @@ never_between x (inr low) (inl high) = let below : x.place < 0 = high in omega (
 never_between x (inr low) (inr high) = let below : x.number < 1 = high.1 in let above : 2 < x.number = low.1 in omega (arith, below, above)
 
 pub early_and_older : (ring : RingState) × (order : Order) × (outs : ℕ → List ℕ) × (histories : ℕ → List Entry) × (log : Log) × IsRing ring
-    × Accounts Told ring (opening_cache 1000 10 0) order
+    × Accounts one_home Told ring (opening_cache 1000 10 0) order
     (λ client. if 0 == client then codes "set k 0 0 1\r\na\r\nget k\r\nset k 0 0 1\r\nb\r\n" else []) outs histories log
     × (outs 0 ≡ codes "STORED\r\nVALUE k 0 1\r\na\r\nEND\r\nSTORED\r\n")
     × (write : Executed order histories (codes "k")) × (read : Executed order histories (codes "k")) × StoresWhole write.atom 0 (codes "b")

@@ -21,6 +21,7 @@ use Rattle.mc_registers.specs.Recache.{has_won, is_win}
 use Rattle.mc_registers.specs.Registers.{Done}
 use Rattle.mc_registers.specs.Records.{Records}
 use Rattle.mc_registers.proofs.RecacheLemmas.{each_win_is_marked, first_win_is_marked}
+use Rattle.mc_world.specs.Homes.{Homes}
 use Rattle.mc_world.specs.Logs.{Log}
 use Rattle.mc_linearizable.specs.Linearizable.{Executed, IsLinearizable, IsLinearizablePool}
 use Rattle.mc_linearizable.specs.Clients.{OneClientFills, WasShownWin}
@@ -111,29 +112,29 @@ win_read (atoms.Meta (metas.Update update show)) own reply same won = absurd cc
 win_read (atoms.Meta (metas.Get key get)) own reply same won = win_same key get own reply same ∙ won
 
 -- a client that was shown W is shown it in its run
-pub run_wins : (counter : ℕ) (order : Order) (histories : ℕ → List Entry) (log : Log) (key : List ℕ) → IsLinearizable counter order histories log key
+pub run_wins : (home : Homes) (counter : ℕ) (order : Order) (histories : ℕ → List Entry) (log : Log) (key : List ℕ) → IsLinearizable home counter order histories log key
     → (x : Executed order histories key) (done : Done) → Records order x.place x.entry done → WasShownWin log x → has_won done.atom done.reply ≡ true
-run_wins counter order histories log key h x done tells wins =
+run_wins home counter order histories log key h x done tells wins =
     let same : done.atom ≡ x.atom = recorded-atom order histories key x done tells in
     let won : has_won x.atom done.reply ≡ true =
-    win_read x.atom done.reply wins.0 (run_says counter order histories log key h x done wins.0 tells wins.1) wins.2 in
+    win_read x.atom done.reply wins.0 (run_says home counter order histories log key h x done wins.0 tells wins.1) wins.2 in
     subst (λ (a : Atom (List ℕ)). has_won a done.reply ≡ true) (sym same) won
 
-pub one_client_fills : (losses : Losses) (counter : ℕ) (order : Order) (texts outs : ℕ → List ℕ) (histories : ℕ → List Entry) (log : Log)
-    → IsLinearizablePool losses counter order texts outs histories log → (key : List ℕ) → OneClientFills order histories log key
-one_client_fills losses counter order texts outs histories log pool key first second wins also comes none =
+pub one_client_fills : (home : Homes) (losses : Losses) (counter : ℕ) (order : Order) (texts outs : ℕ → List ℕ) (histories : ℕ → List Entry) (log : Log)
+    → IsLinearizablePool home losses counter order texts outs histories log → (key : List ℕ) → OneClientFills order histories log key
+one_client_fills home losses counter order texts outs histories log pool key first second wins also comes none =
     let h = pool.keys key in
-    elim (one_life losses counter order texts outs histories log pool key first second comes) [
+    elim (one_life home losses counter order texts outs histories log pool key first second comes) [
       | inl both ↦ (let c = both.1 in
           let not : HaveNotWritten c.between =
           none_wrote order histories key first.place (suc first.number) second.number c.commands c.between c.rising c.told
           (λ x at from to. none x (inr (sym at, omega (arith, from)), inr (at ∙ sym both.0, to))) in
           let made = each_win_is_marked counter None c.front c.between c.back c.first c.last c.run
-          (run_wins counter order histories log key h first c.first c.first_tells wins) (run_wins counter order histories log key h second c.last c.last_tells also) not in
+          (run_wins home counter order histories log key h first c.first c.first_tells wins) (run_wins home counter order histories log key h second c.last c.last_tells also) not in
           told_wrote order histories key second c.last c.last_tells made)
       | inr later ↦ (let c = later.1 in
           let not : HaveNotWritten c.front =
           none_wrote order histories key second.place later.0 second.number c.commands c.front c.rising c.told (λ x at from to. none x (later.2 x at from, inr (at, to))) in
-          let made = first_win_is_marked counter c.front c.back c.done c.run (run_wins counter order histories log key h second c.done c.tells also) not in
+          let made = first_win_is_marked counter c.front c.back c.done c.run (run_wins home counter order histories log key h second c.done c.tells also) not in
           told_wrote order histories key second c.done c.tells made)
     ]

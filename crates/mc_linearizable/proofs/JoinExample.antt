@@ -33,7 +33,7 @@ use Rattle.mc_world.proofs.Log.LifeLemmas.{legal_unrestarted, taken_past}
 use Rattle.mc_history.specs.declared.entries.Entry.{Entry}
 use Rattle.mc_history.specs.Histories.{IsLegal, tag_in}
 use Rattle.mc_pool_laws.proofs.MissExample.{get_asked, get_key}
-use Rattle.mc_pool_laws.proofs.NeedLemmas.{a_cache, loses_one, one_server, outs_of, puts_one, returns_one, serves_one, takes_one}
+use Rattle.mc_pool_laws.proofs.NeedLemmas.{a_cache, loses_one, one_home, one_server, outs_of, puts_one, returns_one, serves_one, takes_one}
 use Rattle.mc_linearizable.specs.Linearizable.{Executed, IsEarlier, IsLinearizablePool}
 use Rattle.mc_linearizable.specs.Clients.{Compares, ComesBetween, HasWritten, IsGet, IsInLife, WasAnsweredBy, WasDone}
 use Rattle.mc_linearizable.proofs.LinearLemmas.{pool_linearizable}
@@ -65,13 +65,13 @@ unfolding words line_end first_line name_of next_request requests_within request
 text_read = refl
 
 -- the requests that were taken: the last two were routed by the ring with the server that joined
-abbrev next : RingState
+abbrev pub next : RingState
 next = joined_ring.0
 
-at_second : (atom : Atom (List ℕ)) → Some (to_owner next (codes "k") atom) ≡ Some (to_place 1 atom)
+pub at_second : (atom : Atom (List ℕ)) → Some (to_owner next (codes "k") atom) ≡ Some (to_place 1 atom)
 at_second atom = ap (λ (p : ℕ). Some (to_place p atom)) joined_ring.2
 
-to_second : (atom : Atom (List ℕ)) → to_owner next (codes "k") atom ∷ [] ≡ to_place 1 atom ∷ []
+pub to_second : (atom : Atom (List ℕ)) → to_owner next (codes "k") atom ∷ [] ≡ to_place 1 atom ∷ []
 to_second atom = ap (λ (p : ℕ). to_place p atom ∷ []) joined_ring.2
 
 abbrev first : TakenRequest
@@ -115,15 +115,15 @@ abbrev new_history : List Entry
 new_history = stored_b ∷ stored_c ∷ []
 
 abbrev serves_again : Logged
-serves_again = Happened (ServerTurn 0 2 5)
+serves_again = Happened (ServerTurn 0 0 2 5)
 
 abbrev serves_new : Logged
-serves_new = Happened (ServerTurn 1 2 5)
+serves_new = Happened (ServerTurn 0 1 2 5)
 
 abbrev join_log : Log
 join_log =
     takes_one ∷ serves_one ∷ puts_one ∷ takes_one ∷ serves_one ∷ puts_one ∷ loses_one ∷ Restarted 0 ∷ returns_one ∷ takes_one ∷ serves_again ∷ puts_one
-    ∷ Joined 1 (codes "b:2") ∷ Happened (LinkLost 1) ∷ Happened (LinkBack 1) ∷ takes_one ∷ serves_new ∷ puts_one ∷ takes_one ∷ serves_new ∷ puts_one ∷ []
+    ∷ Joined 0 1 (codes "b:2") true ∷ Happened (LinkLost 0 1) ∷ Happened (LinkBack 0 1) ∷ takes_one ∷ serves_new ∷ puts_one ∷ takes_one ∷ serves_new ∷ puts_one ∷ []
 
 -- the two lives of the first server, and the one of the second
 old_lives : (life : ℕ) → IsLegal join_order 0 a_cache (in_life 0 life join_log old_history)
@@ -187,7 +187,7 @@ join_small = record {
   read = text_read;
   turns = refl;
   numbered = refl;
-  rings = (refl, (refl, (refl, ((joined_ring.0, joined_ring.1, refl), ((joined_ring.0, joined_ring.1, refl), tt)))));
+  rings = (refl, (refl, (refl, (inl (refl, joined_ring.0, joined_ring.1, refl), (inl (refl, joined_ring.0, joined_ring.1, refl), tt)))));
   sized = All-cons IsSized first (second ∷ third ∷ fourth ∷ fifth ∷ []) refl (All-cons IsSized second (third ∷ fourth ∷ fifth ∷ []) refl
       (All-cons IsSized third (fourth ∷ fifth ∷ []) refl (All-cons IsSized fourth (fifth ∷ []) refl (All-cons IsSized fifth [] refl (All-nil IsSized)))));
   complete = refl;
@@ -216,7 +216,7 @@ join_small = record {
       ++ ((if w then 5 ∷ [] else []) ++ ((if w then 5 ∷ [] else []) ++ []))))) (sym differ) (sym neither);
 }
 
-join_accounts : Accounts Told one_server a_cache join_order (first_text join_text) (outs_of Told join_order join_log) (two_histories old_history new_history) join_log
+join_accounts : Accounts one_home Told one_server a_cache join_order (first_text join_text) (outs_of Told join_order join_log) (two_histories old_history new_history) join_log
 join_accounts = small_accounts Told one_server a_cache join_order join_text old_history new_history join_log join_small
 
 put_out : outs_of Told join_order join_log 0 ≡ codes "STORED\r\nVALUE k 0 1 1\r\na\r\nEND\r\nEND\r\nSTORED\r\nSTORED\r\n"
@@ -224,7 +224,7 @@ unfolding digits
 put_out = refl
 
 -- the account is linearizable
-bounds : IsWithinBounds 1000 10
+pub bounds : IsWithinBounds 1000 10
 bounds = record { some_bytes = omega arith; not_too_many_bytes = omega arith; some_items = omega arith; not_too_many_items = omega arith }
 
 replies : map (λ (e : Entry). e.reply) old_history ≡ codes "STORED\r\n" ∷ codes "VALUE k 0 1 1\r\na\r\nEND\r\n" ∷ codes "END\r\n" ∷ []
@@ -232,9 +232,9 @@ unfolding digits
 replies = refl
 
 pub restarted_and_joined : (ring : RingState) × (order : Order) × (outs : ℕ → List ℕ) × (histories : ℕ → List Entry) × (log : Log) × IsRing ring
-    × Accounts Told ring (opening_cache 1000 10 0) order
+    × Accounts one_home Told ring (opening_cache 1000 10 0) order
     (λ client. if 0 == client then codes "set k 0 0 1\r\na\r\ngets k\r\nget k\r\nset k 0 0 1\r\nb\r\ncas k 0 0 1 1\r\nc\r\n" else []) outs histories log
-    × IsLinearizablePool Told 0 order
+    × IsLinearizablePool one_home Told 0 order
     (λ client. if 0 == client then codes "set k 0 0 1\r\na\r\ngets k\r\nget k\r\nset k 0 0 1\r\nb\r\ncas k 0 0 1 1\r\nc\r\n" else []) outs histories log
     × (outs 0 ≡ codes "STORED\r\nVALUE k 0 1 1\r\na\r\nEND\r\nEND\r\nSTORED\r\nSTORED\r\n") × (number_of (restarts 0) log ≡ 1)
     × (map (λ (e : Entry). e.reply) (histories 0) ≡ codes "STORED\r\n" ∷ codes "VALUE k 0 1 1\r\na\r\nEND\r\n" ∷ codes "END\r\n" ∷ [])
@@ -247,7 +247,7 @@ restarted_and_joined = (
   join_log,
   one_ring,
   join_accounts,
-  pool_linearizable Told one_server 1000 10 0 join_order (first_text join_text) (outs_of Told join_order join_log) (two_histories old_history new_history) join_log one_ring bounds
+  pool_linearizable one_home Told one_server 1000 10 0 join_order (first_text join_text) (outs_of Told join_order join_log) (two_histories old_history new_history) join_log one_ring bounds
       join_accounts,
   put_out,
   refl,
@@ -296,7 +296,7 @@ other_places : ◌≡◌ {A = ℕ} 0 1 → ⊥
 other_places same = omega (arith, same)
 
 pub number_fits : (ring : RingState) × (order : Order) × (outs : ℕ → List ℕ) × (histories : ℕ → List Entry) × (log : Log) × IsRing ring
-    × Accounts Told ring (opening_cache 1000 10 0) order
+    × Accounts one_home Told ring (opening_cache 1000 10 0) order
     (λ client. if 0 == client then codes "set k 0 0 1\r\na\r\ngets k\r\nget k\r\nset k 0 0 1\r\nb\r\ncas k 0 0 1 1\r\nc\r\n" else []) outs histories log
     × (read : Executed order histories (codes "k")) × (cas : Executed order histories (codes "k")) × (other : Executed order histories (codes "k"))
     × IsGet read.atom × WasAnsweredBy order log (tag_in read.entry) (Hit 0 (Some 1) (codes "a")) × Compares cas.atom 1 × WasDone order log (tag_in cas.entry)

@@ -25,7 +25,7 @@ use Rattle.mc_world.proofs.Log.LifeLemmas.{legal_unrestarted}
 use Rattle.mc_history.specs.declared.entries.Entry.{Entry}
 use Rattle.mc_history.specs.Histories.{IsLegal, tag_in}
 use Rattle.mc_pool_laws.proofs.MissExample.{get_asked, get_key}
-use Rattle.mc_pool_laws.proofs.NeedLemmas.{a_cache, is_lost, loses_one, one_server, outs_of, puts_one, returns_one, serves_one, takes_one}
+use Rattle.mc_pool_laws.proofs.NeedLemmas.{a_cache, is_lost, loses_one, one_home, one_server, outs_of, puts_one, returns_one, serves_one, takes_one}
 use Rattle.mc_linearizable.specs.Linearizable.{ComesFirst, Executed, IsEarlier}
 use Rattle.mc_linearizable.proofs.SmallAccounts.{IsKnown, IsSmall, asked_of, at_first, entry_of, first_text, one_ring, puts_if, replied_as, small_accounts, store_asked, store_of, to_first, two_histories}
 
@@ -67,8 +67,8 @@ late_history = stored_b ∷ stored_a ∷ found_a ∷ []
 
 abbrev late_log : Log
 late_log =
-    takes_one ∷ loses_one ∷ puts_one ∷ returns_one ∷ takes_one ∷ Happened (ServerTurn 0 2 5) ∷ puts_one ∷ serves_one ∷ takes_one
-    ∷ Happened (ServerTurn 0 2 5) ∷ puts_one ∷ []
+    takes_one ∷ loses_one ∷ puts_one ∷ returns_one ∷ takes_one ∷ Happened (ServerTurn 0 0 2 5) ∷ puts_one ∷ serves_one ∷ takes_one
+    ∷ Happened (ServerTurn 0 0 2 5) ∷ puts_one ∷ []
 
 late_legal : IsLegal late_order 0 a_cache late_history
 late_legal = (
@@ -146,7 +146,7 @@ late_small = record {
       ap (λ (v : Bool). (if v then 5 ∷ [] else []) ++ ((if v then 5 ∷ [] else []) ++ ((if v then 5 ∷ [] else []) ++ []))) (sym differ);
 }
 
-late_accounts : Accounts Told one_server a_cache late_order (first_text late_text) (outs_of Told late_order late_log) (two_histories late_history []) late_log
+late_accounts : Accounts one_home Told one_server a_cache late_order (first_text late_text) (outs_of Told late_order late_log) (two_histories late_history []) late_log
 late_accounts = small_accounts Told one_server a_cache late_order late_text late_history [] late_log late_small
 
 -- the answers to the client
@@ -182,7 +182,7 @@ never_first (inl lower) = let less : 0 < 0 = lower in omega (arith, less)
 never_first (inr earlier) = let less : 1 < 0 = earlier.1 in omega (arith, less)
 
 pub late_and_lost : (ring : RingState) × (order : Order) × (outs : ℕ → List ℕ) × (histories : ℕ → List Entry) × (log : Log) × IsRing ring
-    × Accounts Told ring (opening_cache 1000 10 0) order
+    × Accounts one_home Told ring (opening_cache 1000 10 0) order
     (λ client. if 0 == client then codes "set k 0 0 1\r\na\r\nset k 0 0 1\r\nb\r\nget k\r\n" else []) outs histories log
     × (outs 0 ≡ codes "SERVER_ERROR link lost\r\nSTORED\r\nVALUE k 0 1\r\na\r\nEND\r\n")
     × (a : Executed order histories (codes "k")) × (b : Executed order histories (codes "k"))

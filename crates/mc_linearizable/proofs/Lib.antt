@@ -19,3 +19,4 @@ pub mod EarlyGet
 pub mod LostSecond
 pub mod JoinRing
 pub mod JoinExample
+pub mod TwoRings

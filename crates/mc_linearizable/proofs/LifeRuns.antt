@@ -13,6 +13,7 @@ use Rattle.mc_history.specs.Histories.{tag_in}
 use Rattle.mc_registers.specs.Laws.{is_on}
 use Rattle.mc_registers.specs.Registers.{Done}
 use Rattle.mc_registers.specs.Records.{RecordEach, Records, on_key}
+use Rattle.mc_world.specs.Homes.{Homes}
 use Rattle.mc_world.specs.Logs.{Log, in_life, taken_before}
 use Rattle.mc_world.proofs.Log.LifeLemmas.{IsOfLife, got_in_life}
 use Rattle.mc_world.proofs.SiteEvents.SiteLemmas.{get_past}
@@ -140,9 +141,9 @@ there_in_life place life log history k e at =
     let same : k + low ≡ low + k = omega arith in
     (ap (λ (n : ℕ). slice_get history n) (sym same) ∙ front.1, omega (arith, front.0, same))
 
-pub life_run : (counter : ℕ) (order : Order) (histories : ℕ → List Entry) (log : Log) (key : List ℕ) → IsLinearizable counter order histories log key
+pub life_run : (home : Homes) (counter : ℕ) (order : Order) (histories : ℕ → List Entry) (log : Log) (key : List ℕ) → IsLinearizable home counter order histories log key
     → (place life : ℕ) → HasRun counter order histories log key place life
-life_run counter order histories log key h place life =
+life_run home counter order histories log key h place life =
     let low : ℕ = taken_before place life log in
     let high : ℕ = taken_before place (suc life) log in
     let own = h.lives place life in

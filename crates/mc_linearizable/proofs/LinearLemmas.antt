@@ -1,10 +1,10 @@
 -- Each key of an account is linearizable.
-use Rattle.std.proofs.Common.{◌≡◌, ◌∙◌, ⊎_elim, ℕ, ◌<◌, ◌≤◌, inl, inr, true, List, Some, slice_get, ap, subst, arith}
+use Rattle.std.proofs.Common.{◌≡◌, ◌∙◌, ⊎_elim, ℕ, ◌<◌, ◌≤◌, inl, inr, true, List, ◌++◌, Some, slice_get, ap, subst, arith}
 use Rattle.std.proofs.lemmas.Bool.{cases_lt}
 use Rattle.mc_request.specs.declared.parts.Atom.{Atom}
 use Rattle.mc_ring.specs.Rings.{IsRing, RingState}
 use Rattle.mc_route.specs.declared.losses.Losses.{Losses}
-use Rattle.mc_route.specs.Routes.{to_place}
+use Rattle.mc_route.specs.Routes.{owner_in, to_place}
 use Rattle.mc_route.specs.declared.outcomes.Outcome.{Outcome}
 use Rattle.mc_route.specs.declared.outcomes.Outcome.TheVariants.{Awaited, Lost, Reply}
 use Rattle.mc_link.specs.declared.turns.Tag.{Tag}
@@ -17,24 +17,28 @@ use Rattle.mc_registers.specs.Laws.{is_on}
 use Rattle.mc_registers.proofs.RunLemmas.{opening-knows}
 use Rattle.mc_registers.proofs.RecordLemmas.{recorded-runs}
 use Rattle.mc_world.specs.Accounts.{Accounts}
-use Rattle.mc_world.specs.Logs.{Log, before, in_life, number_of, puts, serves, takes}
+use Rattle.mc_world.specs.Homes.{Homes, home_in}
+use Rattle.mc_world.specs.Logs.{IsRingAfter, Log, before, in_life, number_of, puts, serves, takes}
 use Rattle.mc_world.specs.Runs.{Call, Calls}
 use Rattle.mc_world.specs.Steps.{GivesAccount}
-use Rattle.mc_world.specs.Worlds.{CourseState, WorldState, history_of, put_out_of, text_of, world_opened}
+use Rattle.mc_world.specs.WorldState.{home_of}
+use Rattle.mc_world.specs.Worlds.{CourseState, WorldState, history_of, homes_from, put_out_of, text_of, world_opened}
 use Rattle.mc_world.proofs.Log.LogLemmas.{number-before}
 use Rattle.mc_world.proofs.Course.RunLemmas.{calls_account}
+use Rattle.mc_pool_laws.specs.OneMaps.{joins}
 use Rattle.mc_pool_laws.specs.Outcomes.{HasOutcomeBy}
+use Rattle.mc_pool_laws.proofs.OneMapOwnerLemmas.{command_own}
 use Rattle.mc_pool_laws.proofs.PlaceLemmas.{before-front}
 use Rattle.mc_pool_laws.proofs.OutcomeLemmas.{known_at, told_by}
-use Rattle.mc_linearizable.specs.Linearizable.{Became, ComesFirst, Executed, IsAccountedWorld, IsEarlier, IsLinearizable, IsLinearizablePool, IsLinearizableWorld, WasReplied}
-use Rattle.mc_linearizable.proofs.MoveLemmas.{taken_lower}
+use Rattle.mc_linearizable.specs.Linearizable.{Became, ComesFirst, Executed, IsAccountedWorld, IsEarlier, IsLinearizable, IsLinearizablePool, IsLinearizableWorld, IsNotRoutedBack, WasReplied}
+use Rattle.mc_linearizable.proofs.MoveLemmas.{grown_lower, has_key, kept_lower, taken_lower}
 use Rattle.mc_linearizable.proofs.TimeLemmas.{number_later, taken_earlier}
 
 -- a command that was answered by its reply before another was taken was not executed after it, nor at its turn
-not_later : (losses : Losses) (ring : RingState) (opening : CacheState) (order : Order) (texts outs : ℕ → List ℕ) (histories : ℕ → List Entry) (log : Log)
-    → Accounts losses ring opening order texts outs histories log → (place j k : ℕ) (d e : Entry) → slice_get (histories place) j ≡ Some d
+not_later : (home : Homes) (losses : Losses) (ring : RingState) (opening : CacheState) (order : Order) (texts outs : ℕ → List ℕ) (histories : ℕ → List Entry) (log : Log)
+    → Accounts home losses ring opening order texts outs histories log → (place j k : ℕ) (d e : Entry) → slice_get (histories place) j ≡ Some d
     → slice_get (histories place) k ≡ Some e → j ≤ k → WasReplied order (tag_in e) → IsEarlier (tag_in e) (tag_in d) log → ⊥
-not_later losses ring opening order texts outs histories log h place j k d e at also less replied earlier =
+not_later home losses ring opening order texts outs histories log h place j k d e at also less replied earlier =
     let taken : d.request < number_of (takes d.client) (before (serves place) j log) = (h.placed place j d at).0 in
     let waits : number_of (puts e.client) (before (serves place) k log) ≤ e.request = (h.placed place k e also).1 replied.0 replied.1 in
     let more = number_later (takes d.client) (serves place) j k log less in
@@ -44,13 +48,16 @@ not_later losses ring opening order texts outs histories log h place j k d e at 
     subst (λ (l : Log). e.request < number_of (puts e.client) l) same earlier in
     omega (arith, answered, few, waits)
 
-keeps_time : (losses : Losses) (ring : RingState) (opening : CacheState) (order : Order) (texts outs : ℕ → List ℕ) (histories : ℕ → List Entry) (log : Log)
-    → Accounts losses ring opening order texts outs histories log → IsRing ring → (key : List ℕ) (a b : Executed order histories key) → WasReplied order (tag_in a.entry)
-    → IsEarlier (tag_in a.entry) (tag_in b.entry) log → ComesFirst a b
-keeps_time losses ring opening order texts outs histories log h good key a b replied earlier =
-    let early = taken_earlier losses ring opening order texts outs histories log h (tag_in a.entry) (tag_in b.entry) earlier in
-    let lower = taken_lower losses ring opening order texts outs histories log h good key (tag_in a.entry) (tag_in b.entry) a.place b.place a.atom b.atom
-    a.command b.command a.on b.on early in
+keeps_time : (home : Homes) (losses : Losses) (ring : RingState) (opening : CacheState) (order : Order) (texts outs : ℕ → List ℕ) (histories : ℕ → List Entry) (log : Log)
+    → Accounts home losses ring opening order texts outs histories log → IsRing ring → (key : List ℕ) (a b : Executed order histories key) → WasReplied order (tag_in a.entry)
+    → IsEarlier (tag_in a.entry) (tag_in b.entry) log → IsNotRoutedBack home a b → ComesFirst a b
+keeps_time home losses ring opening order texts outs histories log h good key a b replied earlier along =
+    let early = taken_earlier home losses ring opening order texts outs histories log h (tag_in a.entry) (tag_in b.entry) earlier in
+    let lower : a.place ≤ b.place = elim along [
+      | inl one ↦ taken_lower home losses ring opening order texts outs histories log h good key (tag_in a.entry) (tag_in b.entry) a.place b.place a.atom b.atom
+          a.command b.command a.on b.on one early
+      | inr stays ↦ stays
+    ] in
     ⊎_elim
     (λ less. inl less)
     (λ not_less.
@@ -58,15 +65,42 @@ keeps_time losses ring opening order texts outs histories log h good key a b rep
     let at : slice_get (histories b.place) a.number ≡ Some a.entry = subst (λ (p : ℕ). slice_get (histories p) a.number ≡ Some a.entry) same a.at in
     ⊎_elim
     (λ less. inr (same, less))
-    (λ late. absurd (not_later losses ring opening order texts outs histories log h b.place b.number a.number b.entry a.entry b.at at late replied earlier))
+    (λ late. absurd (not_later home losses ring opening order texts outs histories log h b.place b.number a.number b.entry a.entry b.at at late replied earlier))
     (cases_lt a.number b.number))
     (cases_lt a.place b.place)
 
+-- a key is not routed back if its owner is no lower, by rings that grow, nor if no server joins
+pub not_back_kept : (home : Homes) (losses : Losses) (ring : RingState) (opening : CacheState) (order : Order) (texts outs : ℕ → List ℕ) (histories : ℕ → List Entry) (log : Log)
+    → Accounts home losses ring opening order texts outs histories log → (key : List ℕ) (a b : Executed order histories key) (old new : RingState)
+    → IsRingAfter (home a.entry.client) ring (before (takes a.entry.client) a.entry.request log) old
+    → IsRingAfter (home b.entry.client) ring (before (takes b.entry.client) b.entry.request log) new
+    → owner_in old key ≤ owner_in new key → IsNotRoutedBack home a b
+not_back_kept home losses ring opening order texts outs histories log h key a b old new is_old is_new kept =
+    inr (kept_lower home losses ring opening order texts outs histories log h key (tag_in a.entry) (tag_in b.entry) a.place b.place a.atom b.atom
+    a.command b.command a.on b.on old new is_old is_new kept)
+
+pub not_back : (home : Homes) (losses : Losses) (ring : RingState) (opening : CacheState) (order : Order) (texts outs : ℕ → List ℕ) (histories : ℕ → List Entry) (log : Log)
+    → IsRing ring → Accounts home losses ring opening order texts outs histories log → (key : List ℕ) (a b : Executed order histories key) (old new : RingState)
+    → IsRingAfter (home a.entry.client) ring (before (takes a.entry.client) a.entry.request log) old
+    → IsRingAfter (home b.entry.client) ring (before (takes b.entry.client) b.entry.request log) new
+    → (more : List (List ℕ)) → new.servers ≡ old.servers ++ more → IsNotRoutedBack home a b
+not_back home losses ring opening order texts outs histories log good h key a b old new is_old is_new more grows =
+    inr (grown_lower home losses ring opening order texts outs histories log h good key (tag_in a.entry) (tag_in b.entry) a.place b.place a.atom b.atom
+    a.command b.command a.on b.on old new is_old is_new more grows)
+
+pub not_back_unjoined : (home : Homes) (losses : Losses) (ring : RingState) (opening : CacheState) (order : Order) (texts outs : ℕ → List ℕ) (histories : ℕ → List Entry) (log : Log)
+    → Accounts home losses ring opening order texts outs histories log → number_of joins log ≡ 0 → (key : List ℕ) (a b : Executed order histories key)
+    → IsNotRoutedBack home a b
+not_back_unjoined home losses ring opening order texts outs histories log h none key a b =
+    let here = command_own home losses ring opening order texts outs histories log h none (tag_in a.entry) a.place a.atom a.command key (has_key key a.atom a.on) in
+    let there = command_own home losses ring opening order texts outs histories log h none (tag_in b.entry) b.place b.atom b.command key (has_key key b.atom b.on) in
+    inr (omega (arith, here, there))
+
 -- the outcome of a command on the key
-became_by : (order : Order) (histories : ℕ → List Entry) (log : Log) (key : List ℕ) (tag : Tag) (place : ℕ) (atom : Atom (List ℕ)) (outcome : Outcome)
-    → command_at order tag ≡ Some (to_place place atom) → is_on key atom ≡ true → HasOutcomeBy histories log tag (to_place place atom) outcome
-    → Became order histories log key tag place atom outcome
-became_by order histories log key tag place atom (Reply reply) at on told = (
+became_by : (home : Homes) (order : Order) (histories : ℕ → List Entry) (log : Log) (key : List ℕ) (tag : Tag) (place : ℕ) (atom : Atom (List ℕ)) (outcome : Outcome)
+    → command_at order tag ≡ Some (to_place place atom) → is_on key atom ≡ true → HasOutcomeBy home histories log tag (to_place place atom) outcome
+    → Became home order histories log key tag place atom outcome
+became_by home order histories log key tag place atom (Reply reply) at on told = (
   record {
     place = place;
     number = told.0;
@@ -79,64 +113,65 @@ became_by order histories log key tag place atom (Reply reply) at on told = (
   told.3,
   told.4,
 )
-became_by order histories log key tag place atom Lost at on told = told
-became_by order histories log key tag place atom Awaited at on told = told
+became_by home order histories log key tag place atom Lost at on told = told
+became_by home order histories log key tag place atom Awaited at on told = told
 
-pub linearizable : (losses : Losses) (ring : RingState) (budget items counter : ℕ) (order : Order) (texts outs : ℕ → List ℕ) (histories : ℕ → List Entry) (log : Log)
-    → IsRing ring → IsWithinBounds budget items → Accounts losses ring (opening_cache budget items counter) order texts outs histories log
-    → (key : List ℕ) → IsLinearizable counter order histories log key
-linearizable losses ring budget items counter order texts outs histories log good bounds h key = record {
+pub linearizable : (home : Homes) (losses : Losses) (ring : RingState) (budget items counter : ℕ) (order : Order) (texts outs : ℕ → List ℕ) (histories : ℕ → List Entry) (log : Log)
+    → IsRing ring → IsWithinBounds budget items → Accounts home losses ring (opening_cache budget items counter) order texts outs histories log
+    → (key : List ℕ) → IsLinearizable home counter order histories log key
+linearizable home losses ring budget items counter order texts outs histories log good bounds h key = record {
   lives = λ place life.
       let all = recorded-runs order place (in_life place life log (histories place)) (opening_cache budget items counter) counter
       (λ k. opening-knows budget items counter k bounds) (h.legal place life) in
       (all.0, all.1, all.2 key);
-  in_time = keeps_time losses ring (opening_cache budget items counter) order texts outs histories log h good key;
+  in_time = keeps_time home losses ring (opening_cache budget items counter) order texts outs histories log h good key;
   told = λ tag place atom at on answered.
-      let known = known_at losses ring (opening_cache budget items counter) order texts outs histories log h tag (to_place place atom) at answered in (
+      let known = known_at home losses ring (opening_cache budget items counter) order texts outs histories log h tag (to_place place atom) at answered in (
         known.0,
         known.1,
-        became_by order histories log key tag place atom known.0 at on
-            (told_by losses ring (opening_cache budget items counter) order texts outs histories log h tag (to_place place atom) known.0 at known.1 known.2),
+        became_by home order histories log key tag place atom known.0 at on
+            (told_by home losses ring (opening_cache budget items counter) order texts outs histories log h tag (to_place place atom) known.0 at known.1 known.2),
       );
   once = λ a b same. h.once a.place b.place a.number b.number a.entry b.entry a.at b.at same;
 }
 
-pub pool_linearizable : (losses : Losses) (ring : RingState) (budget items counter : ℕ) (order : Order) (texts outs : ℕ → List ℕ) (histories : ℕ → List Entry) (log : Log)
-    → IsRing ring → IsWithinBounds budget items → Accounts losses ring (opening_cache budget items counter) order texts outs histories log
-    → IsLinearizablePool losses counter order texts outs histories log
-pool_linearizable losses ring budget items counter order texts outs histories log good bounds h = record {
+pub pool_linearizable : (home : Homes) (losses : Losses) (ring : RingState) (budget items counter : ℕ) (order : Order) (texts outs : ℕ → List ℕ) (histories : ℕ → List Entry) (log : Log)
+    → IsRing ring → IsWithinBounds budget items → Accounts home losses ring (opening_cache budget items counter) order texts outs histories log
+    → IsLinearizablePool home losses counter order texts outs histories log
+pool_linearizable home losses ring budget items counter order texts outs histories log good bounds h = record {
   asked = h.asked;
   turns = h.turns;
   sized = h.sized;
   put = h.put;
   after = h.after;
   told = λ tag place atom at answered.
-      let known = known_at losses ring (opening_cache budget items counter) order texts outs histories log h tag (to_place place atom) at answered in (
+      let known = known_at home losses ring (opening_cache budget items counter) order texts outs histories log h tag (to_place place atom) at answered in (
         known.0,
         known.1,
-        told_by losses ring (opening_cache budget items counter) order texts outs histories log h tag (to_place place atom) known.0 at known.1 known.2,
+        told_by home losses ring (opening_cache budget items counter) order texts outs histories log h tag (to_place place atom) known.0 at known.1 known.2,
       );
   moments = h.moments;
-  keys = linearizable losses ring budget items counter order texts outs histories log good bounds h;
+  keys = linearizable home losses ring budget items counter order texts outs histories log good bounds h;
 }
 
-pub run_linearizable : (losses : Losses) (ring : RingState) (clients budget items : ℕ) (calls : List Call) (c : CourseState) → IsRing ring → IsWithinBounds budget items
+pub run_linearizable : (losses : Losses) (ring : RingState) (clients : List ℕ) (budget items : ℕ) (calls : List Call) (c : CourseState) → IsRing ring → IsWithinBounds budget items
     → Calls (opening_cache budget items 0) calls (world_opened losses ring clients budget items).course c
-    → (order : Order) × Accounts losses ring (opening_cache budget items 0) order (text_of c) (put_out_of c) (history_of c) c.log
-    × IsLinearizablePool losses 0 order (text_of c) (put_out_of c) (history_of c) c.log
+    → (order : Order) × Accounts (home_in (homes_from 0 clients)) losses ring (opening_cache budget items 0) order (text_of c) (put_out_of c) (history_of c) c.log
+    × IsLinearizablePool (home_in (homes_from 0 clients)) losses 0 order (text_of c) (put_out_of c) (history_of c) c.log
 run_linearizable losses ring clients budget items calls c good bounds called =
     let account = calls_account losses ring clients budget items calls c good bounds called in
-    (account.0, account.1, pool_linearizable losses ring budget items 0 account.0 (text_of c) (put_out_of c) (history_of c) c.log good bounds account.1)
+    let home = home_in (homes_from 0 clients) in
+    (account.0, account.1, pool_linearizable home losses ring budget items 0 account.0 (text_of c) (put_out_of c) (history_of c) c.log good bounds account.1)
 
 pub world_accounted : (w : WorldState) → IsRing w.opening → IsWithinBounds w.budget w.items → GivesAccount w → IsAccountedWorld w
 world_accounted w good bounds account = (
   account.0,
   account.1,
-  pool_linearizable w.losses w.opening w.budget w.items 0 account.0 (text_of w.course) (put_out_of w.course) (history_of w.course) w.course.log good bounds account.1,
+  pool_linearizable (home_of w.course.pool) w.losses w.opening w.budget w.items 0 account.0 (text_of w.course) (put_out_of w.course) (history_of w.course) w.course.log good bounds account.1,
 )
 
 pub world_linearizable : (w : WorldState) → IsRing w.opening → IsWithinBounds w.budget w.items → GivesAccount w → IsLinearizableWorld w
 world_linearizable w good bounds account = (
   account.0,
-  pool_linearizable w.losses w.opening w.budget w.items 0 account.0 (text_of w.course) (put_out_of w.course) (history_of w.course) w.course.log good bounds account.1,
+  pool_linearizable (home_of w.course.pool) w.losses w.opening w.budget w.items 0 account.0 (text_of w.course) (put_out_of w.course) (history_of w.course) w.course.log good bounds account.1,
 )

@@ -24,7 +24,7 @@ use Rattle.mc_world.specs.declared.logs.Logged.TheVariants.{Happened}
 use Rattle.mc_world.proofs.Log.LifeLemmas.{legal_unrestarted}
 use Rattle.mc_history.specs.declared.entries.Entry.{Entry}
 use Rattle.mc_history.specs.Histories.{IsLegal, tag_in}
-use Rattle.mc_pool_laws.proofs.NeedLemmas.{a_cache, is_lost, loses_one, one_server, outs_of, puts_one, returns_one, takes_one}
+use Rattle.mc_pool_laws.proofs.NeedLemmas.{a_cache, is_lost, loses_one, one_home, one_server, outs_of, puts_one, returns_one, takes_one}
 use Rattle.mc_linearizable.specs.Linearizable.{ComesFirst, Executed, WasReplied}
 use Rattle.mc_linearizable.proofs.SmallAccounts.{IsKnown, IsSmall, asked_of, at_first, entry_of, first_text, one_ring, puts_if, replied_as, small_accounts, store_asked, store_of, to_first, two_histories}
 
@@ -56,7 +56,7 @@ abbrev two_history : List Entry
 two_history = stored_b ∷ stored_a ∷ []
 
 abbrev serves_again : Logged
-serves_again = Happened (ServerTurn 0 2 5)
+serves_again = Happened (ServerTurn 0 0 2 5)
 
 abbrev two_log : Log
 two_log = takes_one ∷ takes_one ∷ loses_one ∷ returns_one ∷ serves_again ∷ serves_again ∷ puts_one ∷ puts_one ∷ []
@@ -121,7 +121,7 @@ two_small = record {
   no_moments = λ place differ neither. ap (λ (v : Bool). (if v then 5 ∷ [] else []) ++ ((if v then 5 ∷ [] else []) ++ [])) (sym differ);
 }
 
-two_accounts : Accounts Told one_server a_cache two_order (first_text two_text) (outs_of Told two_order two_log) (two_histories two_history []) two_log
+two_accounts : Accounts one_home Told one_server a_cache two_order (first_text two_text) (outs_of Told two_order two_log) (two_histories two_history []) two_log
 two_accounts = small_accounts Told one_server a_cache two_order two_text two_history [] two_log two_small
 
 -- the two commands
@@ -152,7 +152,7 @@ never_first (inl lower) = let less : 0 < 0 = lower in omega (arith, less)
 never_first (inr earlier) = let less : 1 < 0 = earlier.1 in omega (arith, less)
 
 pub early_and_lost : (ring : RingState) × (order : Order) × (outs : ℕ → List ℕ) × (histories : ℕ → List Entry) × (log : Log) × IsRing ring
-    × Accounts Told ring (opening_cache 1000 10 0) order (λ client. if 0 == client then codes "set k 0 0 1\r\na\r\nset k 0 0 1\r\nb\r\n" else []) outs histories log
+    × Accounts one_home Told ring (opening_cache 1000 10 0) order (λ client. if 0 == client then codes "set k 0 0 1\r\na\r\nset k 0 0 1\r\nb\r\n" else []) outs histories log
     × (outs 0 ≡ codes "STORED\r\nSERVER_ERROR link lost\r\n")
     × (a : Executed order histories (codes "k")) × (b : Executed order histories (codes "k")) × (a.entry.client ≡ b.entry.client)
     × IsBefore (tag_in a.entry) (tag_in b.entry) × WasReplied order (tag_in a.entry) × (ComesFirst a b → ⊥)

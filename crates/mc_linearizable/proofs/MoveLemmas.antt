@@ -1,9 +1,9 @@
--- A key's server stays, or is one that has joined since, whose place is higher.
-use Rattle.std.proofs.Common.{◌≡◌, ◌∙◌, ℕ, ◌+◌, ◌<◌, ◌≤◌, true, false, List, [], ◌∷◌, ◌++◌, length, Option, None, Some, refl, sym, ap, subst, length-append, arith, inl, inr}
+-- By one proxy, and by rings that grow, a key's server stays, or is one that has joined since, whose place is higher.
+use Rattle.std.proofs.Common.{◌≡◌, ◌∙◌, ℕ, ◌+◌, ◌<◌, ◌≤◌, true, false, List, [], ◌∷◌, ◌++◌, length, Option, None, Some, refl, sym, ap, subst, length-append, append_assoc, append-nil, arith, inl, inr}
 use Rattle.std.specs.Option.{option_map_or}
 use Rattle.std.specs.Str.{bytes_eq}
 use Rattle.std.specs.Cmp.Lexicographic.{same_text}
-use Rattle.std.proofs.lemmas.List.{length_push}
+use Rattle.std.proofs.lemmas.List.{append_cancel_left, length_push}
 use Rattle.mc_request.specs.declared.parts.Atom.{Atom}
 use Rattle.mc_ring.specs.Points.{hash_of, pairs_at, points_of}
 use Rattle.mc_ring.specs.Rings.{IsRing, RingState}
@@ -16,13 +16,14 @@ use Rattle.mc_link.specs.declared.turns.Tag.{Tag}
 use Rattle.mc_cache.specs.CacheState.{CacheState}
 use Rattle.mc_cache.specs.Step.{atom_key}
 use Rattle.mc_account.specs.Lookups.{asked_at, command_at}
-use Rattle.mc_account.specs.Orders.{Order}
+use Rattle.mc_account.specs.Orders.{Order, TakenRequest}
 use Rattle.mc_history.specs.declared.entries.Entry.{Entry}
 use Rattle.mc_registers.specs.Laws.{is_on}
 use Rattle.mc_world.specs.Accounts.{Accounts, WasTaken}
+use Rattle.mc_world.specs.Homes.{Homes}
 use Rattle.mc_world.specs.Logs.{HasJoined, IsRingAfter, Log, before, takes}
 use Rattle.mc_world.specs.declared.logs.Logged.TheVariants.{Happened, Joined, Restarted}
-use Rattle.mc_pool_laws.proofs.OneRing.{ring_one}
+use Rattle.mc_pool_laws.proofs.OneRing.{joined_one, ring_one}
 use Rattle.mc_pool_laws.proofs.OwnerLemmas.{taken-own}
 use Rattle.mc_pool_laws.proofs.PlaceLemmas.{before-front, front_of}
 use Rattle.mc_pool_laws.proofs.SentLemmas.{in_request}
@@ -51,25 +52,54 @@ joined_goes key server address old new joins owned =
           record { owned = record { pointed = some; inside = omega (arith, many, last, is) }; higher = omega (arith, was, last, is) })
     ]
 
-ring_goes : (key : List ℕ) (old new : RingState) (log : Log) → IsRingAfter old log new → IsOwned key old → GoesTo key old new
-ring_goes key old new [] is owned = subst (λ (ring : RingState). GoesTo key old ring) (sym is) (record { owned = owned; higher = omega arith })
-ring_goes key old new (Happened event ∷ es) is owned = ring_goes key old new es is owned
-ring_goes key old new (Joined server address ∷ es) is owned =
-    let first = joined_goes key server address old is.0 is.1 owned in
-    let rest = ring_goes key is.0 new es is.2 first.owned in
+-- a ring that servers of these addresses have joined, in their order
+abbrev GrowsBy : RingState → List (List ℕ) → RingState → Type 0
+GrowsBy old [] new = new ≡ old
+GrowsBy old (address ∷ more) new = (next : RingState) × HasJoined (length old.servers) address old next × GrowsBy next more new
+
+grows_goes : (key : List ℕ) (old : RingState) (more : List (List ℕ)) (new : RingState) → GrowsBy old more new → IsOwned key old → GoesTo key old new
+grows_goes key old [] new is owned = subst (λ (ring : RingState). GoesTo key old ring) (sym is) (record { owned = owned; higher = omega arith })
+grows_goes key old (address ∷ more) new is owned =
+    let first = joined_goes key (length old.servers) address old is.0 is.1 owned in
+    let rest = grows_goes key is.0 more new is.2 first.owned in
     let low = first.higher in
     let high = rest.higher in
     record { owned = rest.owned; higher = omega (arith, low, high) }
-ring_goes key old new (Restarted server ∷ es) is owned = ring_goes key old new es is owned
+
+grown_servers : (old : RingState) (more : List (List ℕ)) (new : RingState) → GrowsBy old more new → new.servers ≡ old.servers ++ more
+grown_servers old [] new is = ap (λ (ring : RingState). ring.servers) is ∙ sym (append-nil old.servers)
+grown_servers old (address ∷ more) new is =
+    grown_servers is.0 more new is.2 ∙ ap (λ (ss : List (List ℕ)). ss ++ more) is.1.servers ∙ append_assoc old.servers (address ∷ []) more
+
+-- after the first of these servers, the others join
+grows_on : (old : RingState) (first second : List (List ℕ)) (now new : RingState) → GrowsBy old first now → GrowsBy old (first ++ second) new → GrowsBy now second new
+grows_on old [] second now new f g = subst (λ (ring : RingState). GrowsBy ring second new) (sym f) g
+grows_on old (address ∷ first) second now new f g =
+    grows_on f.0 first second now new f.2
+    (subst (λ (ring : RingState). GrowsBy ring (first ++ second) new) (joined_one (length old.servers) address old g.0 f.0 g.1 f.1) g.2)
+
+-- a proxy's ring grows along a log
+grown : (proxy : ℕ) (old new : RingState) (log : Log) → IsRingAfter proxy old log new → (more : List (List ℕ)) × GrowsBy old more new
+grown proxy old new [] is = ([], is)
+grown proxy old new (Happened event ∷ es) is = grown proxy old new es is
+grown proxy old new (Joined of server address up ∷ es) (inl is) =
+    let rest = grown proxy is.1 new es is.3 in
+    (address ∷ rest.0, (is.1, subst (λ (place : ℕ). HasJoined place address old is.1) is.2.last is.2, rest.1))
+grown proxy old new (Joined of server address up ∷ es) (inr is) = grown proxy old new es is.1
+grown proxy old new (Restarted server ∷ es) is = grown proxy old new es is
 
 -- the ring after a front of a log
-ring_between : (old new : RingState) (front rest : Log) → IsRingAfter old (front ++ rest) new → (now : RingState) × IsRingAfter old front now × IsRingAfter now rest new
-ring_between old new [] rest is = (old, refl, is)
-ring_between old new (Happened event ∷ es) rest is = ring_between old new es rest is
-ring_between old new (Joined server address ∷ es) rest is =
-    let later = ring_between is.0 new es rest is.2 in
-    (later.0, (is.0, is.1, later.1), later.2)
-ring_between old new (Restarted server ∷ es) rest is = ring_between old new es rest is
+ring_between : (proxy : ℕ) (old new : RingState) (front rest : Log) → IsRingAfter proxy old (front ++ rest) new
+    → (now : RingState) × IsRingAfter proxy old front now × IsRingAfter proxy now rest new
+ring_between proxy old new [] rest is = (old, refl, is)
+ring_between proxy old new (Happened event ∷ es) rest is = ring_between proxy old new es rest is
+ring_between proxy old new (Joined of server address up ∷ es) rest (inl is) =
+    let later = ring_between proxy is.1 new es rest is.3 in
+    (later.0, inl (is.0, is.1, is.2, later.1), later.2)
+ring_between proxy old new (Joined of server address up ∷ es) rest (inr is) =
+    let later = ring_between proxy old new es rest is.1 in
+    (later.0, inr (is.0, later.1), later.2)
+ring_between proxy old new (Restarted server ∷ es) rest is = ring_between proxy old new es rest is
 
 -- a command on a key has that key
 pub has_key : (key : List ℕ) (atom : Atom (List ℕ)) → is_on key atom ≡ true → atom_key atom ≡ Some key
@@ -79,28 +109,73 @@ has_key key atom on =
       | Some text ↦ λ same. ap (λ (k : List ℕ). Some k) (same_text text key (sym same))
     ]) on
 
--- of two commands on a key the one whose request was taken first is at no higher place
-pub taken_lower : (losses : Losses) (ring : RingState) (opening : CacheState) (order : Order) (texts outs : ℕ → List ℕ) (histories : ℕ → List Entry) (log : Log)
-    → Accounts losses ring opening order texts outs histories log → IsRing ring → (key : List ℕ) (a b : Tag) (p q : ℕ) (x y : Atom (List ℕ))
-    → command_at order a ≡ Some (to_place p x) → command_at order b ≡ Some (to_place q y) → is_on key x ≡ true → is_on key y ≡ true
-    → WasTaken a (before (takes b.session) b.request log) → p ≤ q
-taken_lower losses ring opening order texts outs histories log h good key a b p q x y first second on_first on_second early =
-    let front : Log = before (takes a.session) a.request log in
+-- in a ring that has grown from a ring, a key's owner is at no lower place than in one that it has grown by
+grows_higher : (ring : RingState) (key : List ℕ) → IsRing ring → (first second : List (List ℕ)) (old new : RingState) → GrowsBy ring first old → GrowsBy old second new
+    → owner_in old key ≤ owner_in new key
+grows_higher ring key good first second old new by on =
+    let inside = owner_inside ring key good in
+    let opens : IsOwned key ring = record { pointed = good.pointed; inside = omega (arith, inside) } in
+    (grows_goes key old second new on (grows_goes key ring first old by opens).owned).higher
+
+-- two commands on a key go where their rings have it: if its owner in the second ring is no lower, to no lower place
+routed_lower : (order : Order) (key : List ℕ) (a b : Tag) (p q : ℕ) (x y : Atom (List ℕ)) → command_at order a ≡ Some (to_place p x)
+    → command_at order b ≡ Some (to_place q y) → is_on key x ≡ true → is_on key y ≡ true
+    → ((e f : TakenRequest) → asked_at order a.session a.request ≡ Some e → asked_at order b.session b.request ≡ Some f
+    → owner_in e.ring key ≤ owner_in f.ring key) → p ≤ q
+routed_lower order key a b p q x y first second on_first on_second kept =
     let e = in_request (asked_at order a.session a.request) a.atom (to_place p x) first in
     let f = in_request (asked_at order b.session b.request) b.atom (to_place q y) second in
     let here : p ≡ owner_in e.0.ring key = taken-own e.0.ring e.0.what a.atom (to_place p x) e.2 key (has_key key x on_first) in
     let there : q ≡ owner_in f.0.ring key = taken-own f.0.ring f.0.what b.atom (to_place q y) f.2 key (has_key key y on_second) in
+    let higher = kept e.0 f.0 e.1 f.1 in
+    omega (arith, here, there, higher)
+
+-- of two commands on a key that one proxy took, the one whose request was taken first is at no higher place
+pub taken_lower : (home : Homes) (losses : Losses) (ring : RingState) (opening : CacheState) (order : Order) (texts outs : ℕ → List ℕ) (histories : ℕ → List Entry) (log : Log)
+    → Accounts home losses ring opening order texts outs histories log → IsRing ring → (key : List ℕ) (a b : Tag) (p q : ℕ) (x y : Atom (List ℕ))
+    → command_at order a ≡ Some (to_place p x) → command_at order b ≡ Some (to_place q y) → is_on key x ≡ true → is_on key y ≡ true
+    → home a.session ≡ home b.session → WasTaken a (before (takes b.session) b.request log) → p ≤ q
+taken_lower home losses ring opening order texts outs histories log h good key a b p q x y first second on_first on_second one early =
     let split = front_of (takes a.session) a.request (before (takes b.session) b.request log) in
     let same = before-front (takes a.session) (takes b.session) a.request b.request log early in
     let whole : before (takes b.session) b.request log ≡ before (takes a.session) a.request log ++ split.0 = split.1 ∙ ap (λ (l : Log). l ++ split.0) (sym same) in
-    let between = ring_between ring f.0.ring (before (takes a.session) a.request log) split.0
-    (subst (λ (l : Log). IsRingAfter ring l f.0.ring) whole (h.rings b.session b.request f.0 f.1)) in
-    let now : between.0 ≡ e.0.ring =
-    ring_one ring between.0 e.0.ring (before (takes a.session) a.request log) between.1 (h.rings a.session a.request e.0 e.1) in
-    let inside = owner_inside ring key good in
-    let opens : IsOwned key ring = record { pointed = good.pointed; inside = omega (arith, inside) } in
-    let goes = ring_goes key ring between.0 (before (takes a.session) a.request log) between.1 opens in
-    let on = ring_goes key between.0 f.0.ring split.0 between.2 goes.owned in
-    let higher = on.higher in
-    let owner : owner_in between.0 key ≡ owner_in e.0.ring key = ap (λ (r : RingState). owner_in r key) now in
-    omega (arith, here, there, owner, higher)
+    routed_lower order key a b p q x y first second on_first on_second
+    (λ e f at also.
+    let between = ring_between (home b.session) ring f.ring (before (takes a.session) a.request log) split.0
+    (subst (λ (l : Log). IsRingAfter (home b.session) ring l f.ring) whole (h.rings b.session b.request f also)) in
+    let its : IsRingAfter (home b.session) ring (before (takes a.session) a.request log) e.ring =
+    subst (λ (proxy : ℕ). IsRingAfter proxy ring (before (takes a.session) a.request log) e.ring) one (h.rings a.session a.request e at) in
+    let now : between.0 ≡ e.ring = ring_one (home b.session) ring between.0 e.ring (before (takes a.session) a.request log) between.1 its in
+    let before_it = grown (home b.session) ring e.ring (before (takes a.session) a.request log) its in
+    let after_it = grown (home b.session) between.0 f.ring split.0 between.2 in
+    grows_higher ring key good before_it.0 after_it.0 e.ring f.ring before_it.1 (subst (λ (r : RingState). GrowsBy r after_it.0 f.ring) now after_it.1))
+
+-- likewise of two commands that any proxies took, if the key's owner in the ring of the second is no lower than in the first one's ring
+pub kept_lower : (home : Homes) (losses : Losses) (ring : RingState) (opening : CacheState) (order : Order) (texts outs : ℕ → List ℕ) (histories : ℕ → List Entry) (log : Log)
+    → Accounts home losses ring opening order texts outs histories log → (key : List ℕ) (a b : Tag) (p q : ℕ) (x y : Atom (List ℕ))
+    → command_at order a ≡ Some (to_place p x) → command_at order b ≡ Some (to_place q y) → is_on key x ≡ true → is_on key y ≡ true → (old new : RingState)
+    → IsRingAfter (home a.session) ring (before (takes a.session) a.request log) old → IsRingAfter (home b.session) ring (before (takes b.session) b.request log) new
+    → owner_in old key ≤ owner_in new key → p ≤ q
+kept_lower home losses ring opening order texts outs histories log h key a b p q x y first second on_first on_second old new is_old is_new kept =
+    routed_lower order key a b p q x y first second on_first on_second
+    (λ e f at also.
+    let old_is : old ≡ e.ring = ring_one (home a.session) ring old e.ring (before (takes a.session) a.request log) is_old (h.rings a.session a.request e at) in
+    let new_is : new ≡ f.ring = ring_one (home b.session) ring new f.ring (before (takes b.session) b.request log) is_new (h.rings b.session b.request f also) in
+    subst (λ (r : RingState). owner_in r key ≤ owner_in f.ring key) old_is (subst (λ (r : RingState). owner_in old key ≤ owner_in r key) new_is kept))
+
+-- so if the ring of the second has the servers of the first one's ring, and then others or none
+pub grown_lower : (home : Homes) (losses : Losses) (ring : RingState) (opening : CacheState) (order : Order) (texts outs : ℕ → List ℕ) (histories : ℕ → List Entry) (log : Log)
+    → Accounts home losses ring opening order texts outs histories log → IsRing ring → (key : List ℕ) (a b : Tag) (p q : ℕ) (x y : Atom (List ℕ))
+    → command_at order a ≡ Some (to_place p x) → command_at order b ≡ Some (to_place q y) → is_on key x ≡ true → is_on key y ≡ true → (old new : RingState)
+    → IsRingAfter (home a.session) ring (before (takes a.session) a.request log) old → IsRingAfter (home b.session) ring (before (takes b.session) b.request log) new
+    → (more : List (List ℕ)) → new.servers ≡ old.servers ++ more → p ≤ q
+grown_lower home losses ring opening order texts outs histories log h good key a b p q x y first second on_first on_second old new is_old is_new more grows =
+    let by_old = grown (home a.session) ring old (before (takes a.session) a.request log) is_old in
+    let by_new = grown (home b.session) ring new (before (takes b.session) b.request log) is_new in
+    let servers : ring.servers ++ by_new.0 ≡ ring.servers ++ (by_old.0 ++ more) =
+    sym (grown_servers ring by_new.0 new by_new.1) ∙ grows ∙ ap (λ (ss : List (List ℕ)). ss ++ more) (grown_servers ring by_old.0 old by_old.1)
+    ∙ append_assoc ring.servers by_old.0 more in
+    let on : GrowsBy old more new = grows_on ring by_old.0 more old new by_old.1
+    (subst (λ (ss : List (List ℕ)). GrowsBy ring ss new) (append_cancel_left ring.servers by_new.0 (by_old.0 ++ more) servers) by_new.1) in
+    kept_lower home losses ring opening order texts outs histories log h key a b p q x y first second on_first on_second old new is_old is_new
+    (grows_higher ring key good by_old.0 more old new by_old.1 on)

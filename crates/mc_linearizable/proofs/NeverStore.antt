@@ -17,7 +17,7 @@ use Rattle.mc_history.specs.Histories.{HasNone}
 use Rattle.mc_world.specs.Accounts.{Accounts, up_when_taken}
 use Rattle.mc_world.specs.Logs.{Log, number_of}
 use Rattle.mc_world.proofs.Log.LifeLemmas.{legal_unrestarted}
-use Rattle.mc_pool_laws.proofs.NeedLemmas.{a_cache, loses_one, one_server, outs_of, puts_one, takes_one}
+use Rattle.mc_pool_laws.proofs.NeedLemmas.{a_cache, loses_one, one_home, one_server, outs_of, puts_one, takes_one}
 use Rattle.mc_linearizable.proofs.SmallAccounts.{IsKnown, IsSmall, asked_of, first_text, no_history, one_ring, puts_if, small_accounts, store_asked, store_of, to_first, two_histories}
 
 abbrev never_text : List ℕ
@@ -81,12 +81,12 @@ never_small = record {
   no_moments = λ place differ neither. refl;
 }
 
-never_accounts : Accounts Told one_server a_cache never_order (first_text never_text) (outs_of Told never_order never_log) (two_histories [] []) never_log
+never_accounts : Accounts one_home Told one_server a_cache never_order (first_text never_text) (outs_of Told never_order never_log) (two_histories [] []) never_log
 never_accounts = small_accounts Told one_server a_cache never_order never_text [] [] never_log never_small
 
 pub never_and_lost : (ring : RingState) × (order : Order) × (outs : ℕ → List ℕ) × (histories : ℕ → List Entry) × (log : Log) × IsRing ring
-    × Accounts Told ring (opening_cache 1000 10 0) order (λ client. if 0 == client then codes "set k 0 0 1\r\na\r\n" else []) outs histories log
-    × (outs 0 ≡ codes "SERVER_ERROR link lost\r\n") × up_when_taken 0 (tag_of 0 0 0) log × ((place : ℕ) → HasNone (histories place) (tag_of 0 0 0))
+    × Accounts one_home Told ring (opening_cache 1000 10 0) order (λ client. if 0 == client then codes "set k 0 0 1\r\na\r\n" else []) outs histories log
+    × (outs 0 ≡ codes "SERVER_ERROR link lost\r\n") × up_when_taken 0 0 (tag_of 0 0 0) log × ((place : ℕ) → HasNone (histories place) (tag_of 0 0 0))
 never_and_lost = (
   one_server,
   never_order,

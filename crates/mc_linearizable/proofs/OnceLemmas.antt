@@ -14,6 +14,7 @@ use Rattle.mc_account.specs.Orders.{Order}
 use Rattle.mc_history.specs.declared.entries.Entry.{Entry}
 use Rattle.mc_history.specs.Histories.{HasNone, tag_in}
 use Rattle.mc_world.specs.Accounts.{Accounts}
+use Rattle.mc_world.specs.Homes.{Homes}
 use Rattle.mc_world.specs.Logs.{Log}
 use Rattle.mc_pool_laws.specs.Sent.{IsSent}
 use Rattle.mc_pool_laws.specs.Outcomes.{HasEntry, HasOneEntry}
@@ -55,21 +56,21 @@ entry_or_none (x ∷ xs) tag =
     (one_tag (tag_in x) tag)
 
 -- the history of another server has no entry of it
-none_elsewhere : (losses : Losses) (ring : RingState) (opening : CacheState) (order : Order) (texts outs : ℕ → List ℕ) (histories : ℕ → List Entry) (log : Log)
-    → Accounts losses ring opening order texts outs histories log → (tag : Tag) (command : Routed) → command_at order tag ≡ Some command
+none_elsewhere : (home : Homes) (losses : Losses) (ring : RingState) (opening : CacheState) (order : Order) (texts outs : ℕ → List ℕ) (histories : ℕ → List Entry) (log : Log)
+    → Accounts home losses ring opening order texts outs histories log → (tag : Tag) (command : Routed) → command_at order tag ≡ Some command
     → HasNone (histories command.server) tag → (place : ℕ) → HasNone (histories place) tag
-none_elsewhere losses ring opening order texts outs histories log h tag command at none place k e there same =
-    let named = entry_named losses ring opening order texts outs histories log h place k e there in
+none_elsewhere home losses ring opening order texts outs histories log h tag command at none place k e there same =
+    let named = entry_named home losses ring opening order texts outs histories log h place k e there in
     let is : command ≡ to_place place named.0 =
     same_Some command (to_place place named.0) (sym at ∙ ap (λ (t : Tag). command_at order t) (sym same) ∙ named.1) in
     none k e (subst (λ (p : ℕ). slice_get (histories p) k ≡ Some e) (sym (ap (λ (c : Routed). c.server) is)) there) same
 
-pub once_or_never : (losses : Losses) (ring : RingState) (opening : CacheState) (order : Order) (texts outs : ℕ → List ℕ) (histories : ℕ → List Entry) (log : Log)
-    → Accounts losses ring opening order texts outs histories log → (tag : Tag) (command : Routed) → IsSent ring texts log tag command
+pub once_or_never : (home : Homes) (losses : Losses) (ring : RingState) (opening : CacheState) (order : Order) (texts outs : ℕ → List ℕ) (histories : ℕ → List Entry) (log : Log)
+    → Accounts home losses ring opening order texts outs histories log → (tag : Tag) (command : Routed) → IsSent home ring texts log tag command
     → ((place : ℕ) → HasNone (histories place) tag) ⊎ HasOneEntry histories command.server tag
-once_or_never losses ring opening order texts outs histories log h tag command sent =
-    let at = sent_command losses ring opening order texts outs histories log h tag command sent in
+once_or_never home losses ring opening order texts outs histories log h tag command sent =
+    let at = sent_command home losses ring opening order texts outs histories log h tag command sent in
     elim (entry_or_none (histories command.server) tag) [
-      | inl entry ↦ inr (only_entry losses ring opening order texts outs histories log h command.server tag entry)
-      | inr none ↦ inl (none_elsewhere losses ring opening order texts outs histories log h tag command at none)
+      | inl entry ↦ inr (only_entry home losses ring opening order texts outs histories log h command.server tag entry)
+      | inr none ↦ inl (none_elsewhere home losses ring opening order texts outs histories log h tag command at none)
     ]

@@ -12,6 +12,7 @@ use Rattle.mc_account.specs.Orders.{Order, TakenRequest}
 use Rattle.mc_history.specs.declared.entries.Entry.{Entry}
 use Rattle.mc_history.specs.Histories.{tag_in}
 use Rattle.mc_world.specs.Accounts.{Accounts, WasTaken}
+use Rattle.mc_world.specs.Homes.{Homes}
 use Rattle.mc_world.specs.Logs.{Log, before, number_of, serves, takes}
 use Rattle.mc_world.specs.declared.logs.Logged.{Logged}
 use Rattle.mc_world.proofs.Log.LogLemmas.{number-before}
@@ -44,16 +45,17 @@ never_both a b (inr less) (inl more) = (let same = less.0 in omega (arith, more,
 never_both a b (inr less) (inr more) = (let first = less.1 in let second = more.1 in omega (arith, first, second))
 
 -- a later request of a client goes to no lower place
-later_lower : (losses : Losses) (ring : RingState) (opening : CacheState) (order : Order) (texts outs : ℕ → List ℕ) (histories : ℕ → List Entry) (log : Log)
-    → Accounts losses ring opening order texts outs histories log → IsRing ring → (key : List ℕ) (a b : Executed order histories key) → a.entry.client ≡ b.entry.client
+later_lower : (home : Homes) (losses : Losses) (ring : RingState) (opening : CacheState) (order : Order) (texts outs : ℕ → List ℕ) (histories : ℕ → List Entry) (log : Log)
+    → Accounts home losses ring opening order texts outs histories log → IsRing ring → (key : List ℕ) (a b : Executed order histories key) → a.entry.client ≡ b.entry.client
     → a.entry.request < b.entry.request → a.place ≤ b.place
-later_lower losses ring opening order texts outs histories log h good key a b own less =
+later_lower home losses ring opening order texts outs histories log h good key a b own less =
     let taken : b.entry.request < number_of (takes b.entry.client) (before (serves b.place) b.number log) = (h.placed b.place b.number b.entry b.at).0 in
     let few = number-before (takes b.entry.client) (serves b.place) b.number log in
     let many = number_at (takes b.entry.client) b.entry.request log (omega (arith, taken, few)) in
     let early : WasTaken (tag_in a.entry) (before (takes b.entry.client) b.entry.request log) =
     subst (λ (c : ℕ). a.entry.request < number_of (takes c) (before (takes b.entry.client) b.entry.request log)) (sym own) (omega (arith, less, many)) in
-    taken_lower losses ring opening order texts outs histories log h good key (tag_in a.entry) (tag_in b.entry) a.place b.place a.atom b.atom a.command b.command a.on b.on early
+    taken_lower home losses ring opening order texts outs histories log h good key (tag_in a.entry) (tag_in b.entry) a.place b.place a.atom b.atom a.command b.command a.on b.on (ap (λ (c : ℕ). home c) own)
+    early
 
 -- two commands of one request go to one place
 one_place : (order : Order) (histories : ℕ → List Entry) (key : List ℕ) (a b : Executed order histories key) → a.entry.client ≡ b.entry.client
@@ -66,20 +68,20 @@ one_place order histories key a b own same =
     let there : b.place ≡ owner_in f.0.ring key = taken-own f.0.ring f.0.what b.entry.atom (to_place b.place b.atom) f.2 key (has_key key b.atom b.on) in
     here ∙ ap (λ (x : TakenRequest). owner_in x.ring key) one ∙ sym there
 
-not_above : (losses : Losses) (ring : RingState) (opening : CacheState) (order : Order) (texts outs : ℕ → List ℕ) (histories : ℕ → List Entry) (log : Log)
-    → Accounts losses ring opening order texts outs histories log → IsRing ring → (key : List ℕ) (a b : Executed order histories key) → a.entry.client ≡ b.entry.client
+not_above : (home : Homes) (losses : Losses) (ring : RingState) (opening : CacheState) (order : Order) (texts outs : ℕ → List ℕ) (histories : ℕ → List Entry) (log : Log)
+    → Accounts home losses ring opening order texts outs histories log → IsRing ring → (key : List ℕ) (a b : Executed order histories key) → a.entry.client ≡ b.entry.client
     → IsBefore (tag_in a.entry) (tag_in b.entry) → a.place ≤ b.place
-not_above losses ring opening order texts outs histories log h good key a b own (inl less) =
-    later_lower losses ring opening order texts outs histories log h good key a b own less
-not_above losses ring opening order texts outs histories log h good key a b own (inr same) =
+not_above home losses ring opening order texts outs histories log h good key a b own (inl less) =
+    later_lower home losses ring opening order texts outs histories log h good key a b own less
+not_above home losses ring opening order texts outs histories log h good key a b own (inr same) =
     let at = one_place order histories key a b own same.0 in
     omega (arith, at)
 
 -- in one history the second is not executed first
-not_first : (losses : Losses) (ring : RingState) (opening : CacheState) (order : Order) (texts outs : ℕ → List ℕ) (histories : ℕ → List Entry) (log : Log)
-    → Accounts losses ring opening order texts outs histories log → (place j k : ℕ) (d e : Entry) → slice_get (histories place) j ≡ Some d
+not_first : (home : Homes) (losses : Losses) (ring : RingState) (opening : CacheState) (order : Order) (texts outs : ℕ → List ℕ) (histories : ℕ → List Entry) (log : Log)
+    → Accounts home losses ring opening order texts outs histories log → (place j k : ℕ) (d e : Entry) → slice_get (histories place) j ≡ Some d
     → slice_get (histories place) k ≡ Some e → d.client ≡ e.client → IsBefore (tag_in d) (tag_in e) → WasReplied order (tag_in d) → WasReplied order (tag_in e) → k ≤ j → ⊥
-not_first losses ring opening order texts outs histories log h place j k d e at also own first one other late =
+not_first home losses ring opening order texts outs histories log h place j k d e at also own first one other late =
     ⊎_elim
     (λ less. never_both (tag_in d) (tag_in e) first (h.ordered place k j e d other.0 one.0 also at less (sym own) other.1 one.1))
     (λ same.
@@ -89,11 +91,11 @@ not_first losses ring opening order texts outs histories log h place j k d e at 
     never_both (tag_in e) (tag_in e) twice twice)
     (cases_lt k j)
 
-pub in_order : (losses : Losses) (ring : RingState) (opening : CacheState) (order : Order) (texts outs : ℕ → List ℕ) (histories : ℕ → List Entry) (log : Log)
-    → IsRing ring → Accounts losses ring opening order texts outs histories log → (key : List ℕ) (a b : Executed order histories key) → a.entry.client ≡ b.entry.client
+pub in_order : (home : Homes) (losses : Losses) (ring : RingState) (opening : CacheState) (order : Order) (texts outs : ℕ → List ℕ) (histories : ℕ → List Entry) (log : Log)
+    → IsRing ring → Accounts home losses ring opening order texts outs histories log → (key : List ℕ) (a b : Executed order histories key) → a.entry.client ≡ b.entry.client
     → IsBefore (tag_in a.entry) (tag_in b.entry) → WasReplied order (tag_in a.entry) → WasReplied order (tag_in b.entry) → ComesFirst a b
-in_order losses ring opening order texts outs histories log good h key a b own first one other =
-    let lower = not_above losses ring opening order texts outs histories log h good key a b own first in
+in_order home losses ring opening order texts outs histories log good h key a b own first one other =
+    let lower = not_above home losses ring opening order texts outs histories log h good key a b own first in
     ⊎_elim
     (λ less. inl less)
     (λ not_less.
@@ -101,6 +103,6 @@ in_order losses ring opening order texts outs histories log good h key a b own f
     let at : slice_get (histories b.place) a.number ≡ Some a.entry = subst (λ (p : ℕ). slice_get (histories p) a.number ≡ Some a.entry) same a.at in
     ⊎_elim
     (λ less. inr (same, less))
-    (λ late. absurd (not_first losses ring opening order texts outs histories log h b.place a.number b.number a.entry b.entry at b.at own first one other late))
+    (λ late. absurd (not_first home losses ring opening order texts outs histories log h b.place a.number b.number a.entry b.entry at b.at own first one other late))
     (cases_lt a.number b.number))
     (cases_lt a.place b.place)

@@ -31,6 +31,7 @@ use Rattle.mc_registers.specs.Registers.{Done, Given, IsRun, get_as, last_by, me
 use Rattle.mc_registers.specs.Records.{Records}
 use Rattle.mc_registers.proofs.GuaranteeLemmas.{reads_see_own_writes}
 use Rattle.mc_registers.proofs.HitLemmas.{quiet-misses, run-told}
+use Rattle.mc_world.specs.Homes.{Homes}
 use Rattle.mc_world.specs.Logs.{Log, taken_before}
 use Rattle.mc_linearizable.specs.Linearizable.{Executed, IsLinearizable, IsLinearizablePool}
 use Rattle.mc_linearizable.specs.Clients.{AHitHasAWriter, AHitShowsTheLastStore, HasContent, HasWritten, HitsBy, StoresWhole, WasAnsweredBy}
@@ -127,13 +128,13 @@ record IsSeen (counter : ℕ) (front : List Done) (atom : Atom (List ℕ)) (hit 
   pub same : spelling_of atom hit ≡ spelling_of atom shown
   pub has : HasContent shown flags value
 
-seen_get : (counter : ℕ) (order : Order) (histories : ℕ → List Entry) (log : Log) (key : List ℕ) → IsLinearizable counter order histories log key
+seen_get : (home : Homes) (counter : ℕ) (order : Order) (histories : ℕ → List Entry) (log : Log) (key : List ℕ) → IsLinearizable home counter order histories log key
     → (x : Executed order histories key) (front back : List Done) (done : Done) (at : List ℕ) (touch : Option ℤ) (with_cas : Bool) (flags : ℕ) (number : Option ℕ) (value : List ℕ)
     → Records order x.place x.entry done → IsRun counter None (front ++ done ∷ back) → x.atom ≡ atoms.Get at touch with_cas
     → WasAnsweredBy order log (tag_in x.entry) (Hit flags number value) → IsSeen counter front x.atom (Hit flags number value)
-seen_get counter order histories log key h x front back done at touch with_cas flags number value tells run gets answered =
+seen_get home counter order histories log key h x front back done at touch with_cas flags number value tells run gets answered =
     let hit : IsHit done.reply = hit_read at done.reply flags number value
-    (read_hits counter order histories log key h x done at touch with_cas flags number value tells gets answered) in
+    (read_hits home counter order histories log key h x done at touch with_cas flags number value tells gets answered) in
     record {
       read = done;
       back = back;
@@ -147,18 +148,18 @@ seen_get counter order histories log key h x front back done at touch with_cas f
       reads = recorded-atom order histories key x done tells ∙ gets;
       hits = hit.is;
       shown = done.reply;
-      same = sym (run_says counter order histories log key h x done (Hit flags number value) tells answered);
+      same = sym (run_says home counter order histories log key h x done (Hit flags number value) tells answered);
       has = subst (λ (r : AReply (List ℕ)). HasContent r hit.flags hit.value) (sym hit.is) (refl, refl);
     }
 
-seen_mg : (counter : ℕ) (order : Order) (histories : ℕ → List Entry) (log : Log) (key : List ℕ) → IsLinearizable counter order histories log key
+seen_mg : (home : Homes) (counter : ℕ) (order : Order) (histories : ℕ → List Entry) (log : Log) (key : List ℕ) → IsLinearizable home counter order histories log key
     → (x : Executed order histories key) (front back : List Done) (done : Done) (at : List ℕ) (get : MetaGet) (shown : Shown) (value : List ℕ)
     → Records order x.place x.entry done → IsRun counter None (front ++ done ∷ back) → x.atom ≡ atoms.Meta (metas.Get at get)
     → (get.create ≡ None) ⊎ (is_win shown.marks ≡ false) → WasAnsweredBy order log (tag_in x.entry) (Meta shown (Some value))
     → IsSeen counter front x.atom (Meta shown (Some value))
-seen_mg counter order histories log key h x front back done at get shown value tells run gets found answered =
+seen_mg home counter order histories log key h x front back done at get shown value tells run gets found answered =
     let says : spelling_of x.atom done.reply ≡ spelling_of x.atom (Meta shown (Some value)) =
-    run_says counter order histories log key h x done (Meta shown (Some value)) tells answered in
+    run_says home counter order histories log key h x done (Meta shown (Some value)) tells answered in
     let bytes : meta_spelling done.reply ≡ meta_spelling (Meta shown (Some value)) =
     subst (λ (a : Atom (List ℕ)). spelling_of a done.reply ≡ spelling_of a (Meta shown (Some value))) gets says in
     let own : IsValue done.reply = value_read done.reply shown value bytes in
@@ -235,16 +236,16 @@ hit_kind (atoms.Meta (metas.Get key get)) (Hit flags number value) by = absurd b
 hit_kind (atoms.Meta (metas.Get key get)) (Fault fault) by = absurd by
 hit_kind (atoms.Meta (metas.Update update show)) hit by = absurd by
 
-seen : (counter : ℕ) (order : Order) (histories : ℕ → List Entry) (log : Log) (key : List ℕ) → IsLinearizable counter order histories log key
+seen : (home : Homes) (counter : ℕ) (order : Order) (histories : ℕ → List Entry) (log : Log) (key : List ℕ) → IsLinearizable home counter order histories log key
     → (x : Executed order histories key) (front back : List Done) (done : Done) (hit : AReply (List ℕ)) → Records order x.place x.entry done
     → IsRun counter None (front ++ done ∷ back) → HitsBy x.atom hit → WasAnsweredBy order log (tag_in x.entry) hit → IsSeen counter front x.atom hit
-seen counter order histories log key h x front back done hit tells run by answered =
+seen home counter order histories log key h x front back done hit tells run by answered =
     elim (hit_kind x.atom hit by) [
       | inl g ↦ subst (λ (r : AReply (List ℕ)). IsSeen counter front x.atom r) (sym g.is)
-          (seen_get counter order histories log key h x front back done g.key g.touch g.with_cas g.flags g.number g.value tells run g.gets
+          (seen_get home counter order histories log key h x front back done g.key g.touch g.with_cas g.flags g.number g.value tells run g.gets
           (subst (λ (r : AReply (List ℕ)). WasAnsweredBy order log (tag_in x.entry) r) g.is answered))
       | inr m ↦ subst (λ (r : AReply (List ℕ)). IsSeen counter front x.atom r) (sym m.is)
-          (seen_mg counter order histories log key h x front back done m.key m.get m.shown m.value tells run m.gets m.found
+          (seen_mg home counter order histories log key h x front back done m.key m.get m.shown m.value tells run m.gets m.found
           (subst (λ (r : AReply (List ℕ)). WasAnsweredBy order log (tag_in x.entry) r) m.is answered))
     ]
 
@@ -270,11 +271,11 @@ stored_in_run counter order histories key x front back done flags value s tells 
       ],
     )
 
-pub hit_shows : (losses : Losses) (counter : ℕ) (order : Order) (texts outs : ℕ → List ℕ) (histories : ℕ → List Entry) (log : Log)
-    → IsLinearizablePool losses counter order texts outs histories log → (key : List ℕ) → AHitShowsTheLastStore order histories log key
-hit_shows losses counter order texts outs histories log pool key store read flags value hit stores wrote by answered comes none =
+pub hit_shows : (home : Homes) (losses : Losses) (counter : ℕ) (order : Order) (texts outs : ℕ → List ℕ) (histories : ℕ → List Entry) (log : Log)
+    → IsLinearizablePool home losses counter order texts outs histories log → (key : List ℕ) → AHitShowsTheLastStore order histories log key
+hit_shows home losses counter order texts outs histories log pool key store read flags value hit stores wrote by answered comes none =
     let h = pool.keys key in
-    elim (one_life losses counter order texts outs histories log pool key store read comes) [
+    elim (one_life home losses counter order texts outs histories log pool key store read comes) [
       | inl both ↦ (let c = both.1 in
           let quiet : AreQuiet c.between = elim (quiet_or_wrote order histories key store.place (suc store.number) read.number c.commands c.between c.rising c.told) [
             | inl still ↦ still
@@ -282,7 +283,7 @@ hit_shows losses counter order texts outs histories log pool key store read flag
           ] in
           let joined : IsRun counter None ((c.front ++ c.first ∷ c.between) ++ c.last ∷ c.back) =
           subst (λ (es : List Done). IsRun counter None es) (sym (append_assoc c.front (c.first ∷ c.between) (c.last ∷ c.back))) c.run in
-          let s = seen counter order histories log key h read (c.front ++ c.first ∷ c.between) c.back c.last hit c.last_tells joined by answered in
+          let s = seen home counter order histories log key h read (c.front ++ c.first ∷ c.between) c.back c.last hit c.last_tells joined by answered in
           let apart : IsRun counter None (c.front ++ c.first ∷ (c.between ++ s.read ∷ s.back)) =
           subst (λ (es : List Done). IsRun counter None es) (append_assoc c.front (c.first ∷ c.between) (s.read ∷ s.back)) s.run in
           let w = stored_in_run counter order histories key store c.front (c.between ++ c.last ∷ c.back) c.first flags value stores c.first_tells c.run wrote in
@@ -297,21 +298,21 @@ hit_shows losses counter order texts outs histories log pool key store read flag
             | inl still ↦ still
             | inr w ↦ absurd (none w.x (later.2 w.x w.at w.from, inr (w.at, w.to)) w.wrote)
           ] in
-          let s = seen counter order histories log key h read c.front c.back c.done hit c.tells c.run by answered in
+          let s = seen home counter order histories log key h read c.front c.back c.done hit c.tells c.run by answered in
           absurd (quiet-misses c.front s.back s.read counter s.key s.touch s.with_cas s.flags s.number s.value s.run quiet s.reads s.hits))
     ]
 
 -- nothing is stored when a life begins, so before a hit a command may have written
-pub hit_has_store : (losses : Losses) (counter : ℕ) (order : Order) (texts outs : ℕ → List ℕ) (histories : ℕ → List Entry) (log : Log)
-    → IsLinearizablePool losses counter order texts outs histories log → (key : List ℕ) → AHitHasAWriter order histories log key
-hit_has_store losses counter order texts outs histories log pool key read hit by answered =
+pub hit_has_store : (home : Homes) (losses : Losses) (counter : ℕ) (order : Order) (texts outs : ℕ → List ℕ) (histories : ℕ → List Entry) (log : Log)
+    → IsLinearizablePool home losses counter order texts outs histories log → (key : List ℕ) → AHitHasAWriter order histories log key
+hit_has_store home losses counter order texts outs histories log pool key read hit by answered =
     let h = pool.keys key in
-    let of = lived losses counter order texts outs histories log pool key read in
+    let of = lived home losses counter order texts outs histories log pool key read in
     let from = of.from in
     let to = of.to in
     let low : ℕ = taken_before read.place of.life log in
-    let c = cut counter order histories log key of.life read (life_run counter order histories log key h read.place of.life) (from, to) in
-    let s = seen counter order histories log key h read c.front c.back c.done hit c.tells c.run by answered in
+    let c = cut counter order histories log key of.life read (life_run home counter order histories log key h read.place of.life) (from, to) in
+    let s = seen home counter order histories log key h read c.front c.back c.done hit c.tells c.run by answered in
     elim (quiet_or_wrote order histories key read.place low read.number c.commands c.front c.rising c.told) [
       | inl quiet ↦ absurd (quiet-misses c.front s.back s.read counter s.key s.touch s.with_cas s.flags s.number s.value s.run quiet s.reads s.hits)
       | inr w ↦ (let after = w.from in

@@ -1,4 +1,4 @@
--- Small accounts: of one client, whose requests have one command each, and of two servers at most. What must be shown of each request and each
+-- Small accounts: of one proxy and one client, whose requests have one command each, and of two servers at most. What must be shown of each request and each
 -- entry is listed in sequence.
 use Rattle.std.proofs.Common.{◌≡◌, ◌∙◌, ℕ, zero, suc, ◌+◌, ◌<◌, ◌≤◌, ◌==◌, ◌⊎◌, inl, inr, Bool, true, false, if◌then◌else◌, List, [], ◌∷◌, ◌++◌, length, map, take, drop, append-nil, All, None, Some, slice_get, refl, sym, ap, ap₂, subst, arith}
 use Rattle.std.specs.Prelude.{codes, pos}
@@ -31,7 +31,7 @@ use Rattle.mc_account.specs.Lookups.{asked_at, command_at, outcome_at}
 use Rattle.mc_account.specs.Orders.{AreInOrder, IsSized, Order, TakenRequest, commands_to, entries_of, is_complete}
 use Rattle.mc_world.specs.declared.events.Event.TheVariants.{Emit}
 use Rattle.mc_world.specs.Accounts.{Accounts, TakenBeforeAnswered}
-use Rattle.mc_world.specs.Logs.{IsRingAfter, Log, before, in_life, loses, moments_of, number_of, puts, taken_before, takes, turns_of}
+use Rattle.mc_world.specs.Logs.{IsRingAfter, Log, before, drops, in_life, moments_of, number_of, puts, taken_before, takes, turns_of}
 use Rattle.mc_world.specs.declared.logs.Logged.{Logged}
 use Rattle.mc_world.specs.declared.logs.Logged.TheVariants.{Happened}
 use Rattle.mc_history.specs.declared.entries.Entry.{Entry}
@@ -39,7 +39,7 @@ use Rattle.mc_history.specs.Histories.{IsLegal, tag_in}
 use Rattle.mc_history.specs.Named.{tags_of}
 use Rattle.mc_pool_laws.specs.Outcomes.{HasOutcomeBy}
 use Rattle.mc_pool_laws.proofs.MissExample.{nothing_read, owned}
-use Rattle.mc_pool_laws.proofs.NeedLemmas.{none_there, one_here, one_server, outcome_in_request, outs_of}
+use Rattle.mc_pool_laws.proofs.NeedLemmas.{followed_one, none_there, one_here, one_home, one_server, outcome_in_request, outs_of}
 use Rattle.mc_pool_laws.proofs.OrderExample.{tag_is}
 use Rattle.mc_pool_laws.proofs.SentLemmas.{in_request}
 
@@ -97,7 +97,7 @@ each_at {X} P n (y ∷ ys) all zero x at m is =
     subst (λ (i : ℕ). P i x) here (subst (λ (z : X). P n z) (same_Some y x at) all.0)
 each_at P n (y ∷ ys) all (suc k) x at m is = each_at P (suc n) ys all.1 k x at m (omega (arith, is))
 
-each_of : {X : Type 0} (P : ℕ → X → Type 0) (xs : List X) → Each P 0 xs → (k : ℕ) (x : X) → slice_get xs k ≡ Some x → P k x
+pub each_of : {X : Type 0} (P : ℕ → X → Type 0) (xs : List X) → Each P 0 xs → (k : ℕ) (x : X) → slice_get xs k ≡ Some x → P k x
 each_of P xs all k x at = each_at P 0 xs all k x at k (omega arith)
 
 got_within : {X : Type 0} (xs : List X) (k : ℕ) → k < length xs → (x : X) × (slice_get xs k ≡ Some x)
@@ -111,7 +111,7 @@ there_if true xs k x at = (refl, at)
 there_if false xs k x at = absurd (none_there k x at)
 
 -- a property of two places, and of each other, is one of all places
-by_place : (P : ℕ → Type 0) → P 0 → P 1 → ((place : ℕ) → (0 == place) ≡ false → (1 == place) ≡ false → P place) → (place : ℕ) → P place
+pub by_place : (P : ℕ → Type 0) → P 0 → P 1 → ((place : ℕ) → (0 == place) ≡ false → (1 == place) ≡ false → P place) → (place : ℕ) → P place
 by_place P first second other place =
     (elim (0 == place) as (λ v. (0 == place) ≡ v → P place) [
       | true ↦ λ own. subst P (eqb-true 0 place own) first
@@ -121,10 +121,10 @@ by_place P first second other place =
       ]) refl
     ]) refl
 
-none_else : (first second : List Entry) (place : ℕ) → (0 == place) ≡ false → (1 == place) ≡ false → two_histories first second place ≡ []
+pub none_else : (first second : List Entry) (place : ℕ) → (0 == place) ≡ false → (1 == place) ≡ false → two_histories first second place ≡ []
 none_else first second place differ neither = ap₂ (λ (v w : Bool). if v then first else if w then second else []) differ neither
 
-else_there : (first second : List Entry) (place k : ℕ) (e : Entry) → (0 == place) ≡ false → (1 == place) ≡ false → slice_get (two_histories first second place) k ≡ Some e → ⊥
+pub else_there : (first second : List Entry) (place k : ℕ) (e : Entry) → (0 == place) ≡ false → (1 == place) ≡ false → slice_get (two_histories first second place) k ≡ Some e → ⊥
 else_there first second place k e differ neither at =
     none_there k e (subst (λ (es : List Entry). slice_get es k ≡ Some e) (none_else first second place differ neither) at)
 
@@ -176,7 +176,7 @@ pub record IsKnown (histories : ℕ → List Entry) (log : Log) (k : ℕ) (x : T
   pub outcome : Outcome
   pub routed : route_of_taken x.ring x.what ≡ to_place place atom ∷ []
   pub became : x.outcomes ≡ outcome ∷ []
-  pub told : HasOutcomeBy histories log (tag_of 0 k 0) (to_place place atom) outcome
+  pub told : HasOutcomeBy one_home histories log (tag_of 0 k 0) (to_place place atom) outcome
 
 -- the entry of its command gives the outcome, if its reply was taken
 pub replied_as : (histories : ℕ → List Entry) (log : Log) (k : ℕ) (x : TakenRequest) (place : ℕ) (atom : Atom (List ℕ)) (reply : AReply (List ℕ)) (n : ℕ) (e : Entry)
@@ -185,13 +185,13 @@ pub replied_as : (histories : ℕ → List Entry) (log : Log) (k : ℕ) (x : Tak
 replied_as histories log k x place atom reply n e routed became at whose says =
     record { place = place; atom = atom; outcome = outcomes.Reply reply; routed = routed; became = became; told = (n, e, at, whose, says) }
 
--- an account, request by request and entry by entry; each server that took commands lost its link
+-- an account, request by request and entry by entry; the link to each server that took commands was lost
 pub record IsSmall (ring : RingState) (opening : CacheState) (order : Order) (text : List ℕ) (first second : List Entry) (log : Log) : Type 0 where
   pub own : AllByRecursion (λ (x : TakenRequest). x.session ≡ 0) order
   pub read : requests_of text ≡ map (λ (x : TakenRequest). x.what) order
   pub turns : map (λ (x : TakenRequest). x.session) order ≡ turns_of log
   pub numbered : AreInOrder order
-  pub rings : Each (λ (k : ℕ) (x : TakenRequest). IsRingAfter ring (before (takes 0) k log) x.ring) 0 order
+  pub rings : Each (λ (k : ℕ) (x : TakenRequest). IsRingAfter 0 ring (before (takes 0) k log) x.ring) 0 order
   pub sized : All IsSized order
   pub complete : list_all is_complete (take (length order) order) ≡ true
   pub known : Each (IsKnown (two_histories first second) log) 0 order
@@ -208,8 +208,8 @@ pub record IsSmall (ring : RingState) (opening : CacheState) (order : Order) (te
   pub second_placed : Each (TakenBeforeAnswered order log 1) 0 second
   pub first_risen : AreRisen order 0 first
   pub second_risen : AreRisen order 0 second
-  pub first_lost : number_of (loses 0) log ≡ 0 → first ≡ []
-  pub second_lost : number_of (loses 1) log ≡ 0 → second ≡ []
+  pub first_lost : number_of (drops 0 0) log ≡ 0 → first ≡ []
+  pub second_lost : number_of (drops 0 1) log ≡ 0 → second ≡ []
   pub first_moments : map (λ (e : Entry). e.moment) first ≡ moments_of 0 log
   pub second_moments : map (λ (e : Entry). e.moment) second ≡ moments_of 1 log
   pub no_moments : (place : ℕ) → (0 == place) ≡ false → (1 == place) ≡ false → [] ≡ moments_of place log
@@ -263,7 +263,7 @@ nothing_left (suc n) (suc m) = refl
 -- the outcome of a command is shown
 known_by : (ring : RingState) (opening : CacheState) (order : Order) (text : List ℕ) (first second : List Entry) (log : Log) → IsSmall ring opening order text first second log
     → (tag : Tag) (place : ℕ) (atom : Atom (List ℕ)) (outcome : Outcome) → command_at order tag ≡ Some (to_place place atom) → outcome_at order tag ≡ Some outcome
-    → HasOutcomeBy (two_histories first second) log tag (to_place place atom) outcome
+    → HasOutcomeBy one_home (two_histories first second) log tag (to_place place atom) outcome
 known_by ring opening order text first second log h tag place atom outcome at became =
     let asked = in_request (asked_at order tag.session tag.request) tag.atom (to_place place atom) at in
     let own = asked_own order h.own tag.session tag.request asked.0 asked.1 in
@@ -274,9 +274,9 @@ known_by ring opening order text first second log h tag place atom outcome at be
     let same : told.0 ≡ asked.0 = same_Some told.0 asked.0 (sym told.1 ∙ asked.1) in
     let is = one_here known.outcome tag.atom outcome
     (ap (λ (os : List Outcome). slice_get os tag.atom) (sym (ap (λ (x : TakenRequest). x.outcomes) same ∙ known.became)) ∙ told.2) in
-    subst (λ (q : Outcome). HasOutcomeBy (two_histories first second) log tag (to_place place atom) q) (sym is.1)
-    (subst (λ (c : Routed). HasOutcomeBy (two_histories first second) log tag c known.outcome) (sym command.1)
-    (subst (λ (t : Tag). HasOutcomeBy (two_histories first second) log t (to_place known.place known.atom) known.outcome) (tag_is tag tag.request own.0 refl command.0) known.told))
+    subst (λ (q : Outcome). HasOutcomeBy one_home (two_histories first second) log tag (to_place place atom) q) (sym is.1)
+    (subst (λ (c : Routed). HasOutcomeBy one_home (two_histories first second) log tag c known.outcome) (sym command.1)
+    (subst (λ (t : Tag). HasOutcomeBy one_home (two_histories first second) log t (to_place known.place known.atom) known.outcome) (tag_is tag tag.request own.0 refl command.0) known.told))
 
 -- the place and index of an entry
 sites_by : (ring : RingState) (opening : CacheState) (order : Order) (text : List ℕ) (first second : List Entry) (log : Log) → (h : IsSmall ring opening order text first second log)
@@ -314,9 +314,9 @@ legal_by ring opening order text first second log h =
     (subst (λ (es : List Entry). IsLegal order place opening es) (sym (nothing_left (taken_before place life log) (taken_before place (suc life) log))) tt))
 
 unlost_by : (ring : RingState) (opening : CacheState) (order : Order) (text : List ℕ) (first second : List Entry) (log : Log) → IsSmall ring opening order text first second log
-    → (place : ℕ) → number_of (loses place) log ≡ 0 → two_histories first second place ≡ []
+    → (place : ℕ) → number_of (drops 0 place) log ≡ 0 → two_histories first second place ≡ []
 unlost_by ring opening order text first second log h =
-    by_place (λ place. number_of (loses place) log ≡ 0 → two_histories first second place ≡ []) h.first_lost h.second_lost
+    by_place (λ place. number_of (drops 0 place) log ≡ 0 → two_histories first second place ≡ []) h.first_lost h.second_lost
     (λ place differ neither none. none_else first second place differ neither)
 
 moments_by : (ring : RingState) (opening : CacheState) (order : Order) (text : List ℕ) (first second : List Entry) (log : Log) → IsSmall ring opening order text first second log
@@ -335,14 +335,14 @@ after_by ring opening order text first second log h client request early =
     (each_of (λ (k : ℕ) (x : TakenRequest). k < number_of (takes 0) (before (puts 0) k log)) order h.after request got.0 got.1)
 
 rings_by : (ring : RingState) (opening : CacheState) (order : Order) (text : List ℕ) (first second : List Entry) (log : Log) → IsSmall ring opening order text first second log
-    → (client request : ℕ) (x : TakenRequest) → asked_at order client request ≡ Some x → IsRingAfter ring (before (takes client) request log) x.ring
+    → (client request : ℕ) (x : TakenRequest) → asked_at order client request ≡ Some x → IsRingAfter 0 ring (before (takes client) request log) x.ring
 rings_by ring opening order text first second log h client request x at =
     let own = asked_own order h.own client request x at in
-    subst (λ (c : ℕ). IsRingAfter ring (before (takes c) request log) x.ring) own.0
-    (each_of (λ (k : ℕ) (y : TakenRequest). IsRingAfter ring (before (takes 0) k log) y.ring) order h.rings request x own.1)
+    subst (λ (c : ℕ). IsRingAfter 0 ring (before (takes c) request log) x.ring) own.0
+    (each_of (λ (k : ℕ) (y : TakenRequest). IsRingAfter 0 ring (before (takes 0) k log) y.ring) order h.rings request x own.1)
 
 pub small_accounts : (losses : Losses) (ring : RingState) (opening : CacheState) (order : Order) (text : List ℕ) (first second : List Entry) (log : Log)
-    → IsSmall ring opening order text first second log → Accounts losses ring opening order (first_text text) (outs_of losses order log) (two_histories first second) log
+    → IsSmall ring opening order text first second log → Accounts one_home losses ring opening order (first_text text) (outs_of losses order log) (two_histories first second) log
 small_accounts losses ring opening order text first second log h = record {
   asked = λ client.
       let own = asked_by order text h.read (0 == client) in
@@ -360,10 +360,10 @@ small_accounts losses ring opening order text first second log h = record {
   replied = λ tag place atom reply at became. known_by ring opening order text first second log h tag place atom (outcomes.Reply reply) at became;
   lost = λ tag place atom at became. known_by ring opening order text first second log h tag place atom outcomes.Lost at became;
   ordered = λ place j k d e r q at also less own one other. inl (ordered_by ring opening order text first second log h place j k d e r q at also less one other);
-  followed = λ place none. (
+  followed = followed_one order (two_histories first second) log (λ place none. (
     tags_of (commands_to place order),
     ap (λ (es : List Entry). map tag_in es ++ tags_of (commands_to place order)) (unlost_by ring opening order text first second log h place none),
-  );
+  ));
   answered = λ client.
       ap₂ (λ (n : ℕ) (es : Order). list_all is_complete (take n es)) (h.answers client) (all_own client order h.own) ∙ complete_by order h.complete (0 == client);
   put = λ client. refl;

@@ -7,6 +7,7 @@ use Rattle.mc_cache.specs.CacheState.{CacheState}
 use Rattle.mc_account.specs.Orders.{Order}
 use Rattle.mc_history.specs.declared.entries.Entry.{Entry}
 use Rattle.mc_world.specs.Accounts.{Accounts, WasTaken}
+use Rattle.mc_world.specs.Homes.{Homes}
 use Rattle.mc_world.specs.Logs.{Log, before, number_of, puts, takes}
 use Rattle.mc_world.specs.declared.logs.Logged.{Logged}
 use Rattle.mc_world.proofs.Log.LogLemmas.{number-before}
@@ -37,9 +38,9 @@ number_later is kind (suc few) (suc many) (x ∷ xs) less =
     ])
 
 -- a request that was answered before another was taken was also taken before it
-pub taken_earlier : (losses : Losses) (ring : RingState) (opening : CacheState) (order : Order) (texts outs : ℕ → List ℕ) (histories : ℕ → List Entry) (log : Log)
-    → Accounts losses ring opening order texts outs histories log → (a b : Tag) → IsEarlier a b log → WasTaken a (before (takes b.session) b.request log)
-taken_earlier losses ring opening order texts outs histories log h a b earlier =
+pub taken_earlier : (home : Homes) (losses : Losses) (ring : RingState) (opening : CacheState) (order : Order) (texts outs : ℕ → List ℕ) (histories : ℕ → List Entry) (log : Log)
+    → Accounts home losses ring opening order texts outs histories log → (a b : Tag) → IsEarlier a b log → WasTaken a (before (takes b.session) b.request log)
+taken_earlier home losses ring opening order texts outs histories log h a b earlier =
     let front : Log = before (takes b.session) b.request log in
     let all = number-before (puts a.session) (takes b.session) b.request log in
     let same = before-front (puts a.session) (takes b.session) a.request b.request log earlier in

@@ -12,6 +12,7 @@ use Rattle.mc_registers.specs.Guarantees.{HaveNotWritten, has_written}
 use Rattle.mc_registers.specs.Recache.{has_won, wins}
 use Rattle.mc_registers.specs.Registers.{Done}
 use Rattle.mc_registers.proofs.RecacheLemmas.{one_winner}
+use Rattle.mc_world.specs.Homes.{Homes}
 use Rattle.mc_world.specs.Logs.{Log}
 use Rattle.mc_linearizable.specs.Linearizable.{Executed, IsLinearizablePool}
 use Rattle.mc_linearizable.specs.Clients.{AreRecorded, ComeBetween, NoneHasWritten, OneClientWins}
@@ -49,12 +50,12 @@ wins_last (e ∷ all) two won =
     let later = wins_last all two won in
     omega (arith, later)
 
-pub one_client_wins : (losses : Losses) (counter : ℕ) (order : Order) (texts outs : ℕ → List ℕ) (histories : ℕ → List Entry) (log : Log)
-    → IsLinearizablePool losses counter order texts outs histories log → (key : List ℕ) → OneClientWins order histories log key
-one_client_wins losses counter order texts outs histories log pool key winner rival wins_first wins_second none between come one two all first_tells told second_tells number held steady =
+pub one_client_wins : (home : Homes) (losses : Losses) (counter : ℕ) (order : Order) (texts outs : ℕ → List ℕ) (histories : ℕ → List Entry) (log : Log)
+    → IsLinearizablePool home losses counter order texts outs histories log → (key : List ℕ) → OneClientWins order histories log key
+one_client_wins home losses counter order texts outs histories log pool key winner rival wins_first wins_second none between come one two all first_tells told second_tells number held steady =
     let h = pool.keys key in
-    let first : has_won one.atom one.reply ≡ true = run_wins counter order histories log key h winner one first_tells wins_first in
-    let second : has_won two.atom two.reply ≡ true = run_wins counter order histories log key h rival two second_tells wins_second in
+    let first : has_won one.atom one.reply ≡ true = run_wins home counter order histories log key h winner one first_tells wins_first in
+    let second : has_won two.atom two.reply ≡ true = run_wins home counter order histories log key h rival two second_tells wins_second in
     let quiet : HaveNotWritten (one ∷ (all ++ two ∷ [])) = (
       win_looks one.atom one.reply first,
       not_last all two (have_not order histories key winner rival between all none come told) (win_looks two.atom two.reply second),

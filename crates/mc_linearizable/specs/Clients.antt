@@ -1,5 +1,5 @@
 -- What the clients of a pool may rely on, of one key: this project's own. The laws of a register (mc_registers) are about runs. These laws are about the
--- commands on a key that servers executed, in the key's one order, and about the replies that the proxy took. A lost command is in that order too, if it was
+-- commands on a key that servers executed, in the key's one order, and about the replies that the proxies took. A lost command is in that order too, if it was
 -- executed.
 use Rattle.std.specs.Prelude.{ℕ, suc, ◌≡◌, ◌<◌, ◌≤◌, ◌^◌, ◌⊎◌, ℤ, Bool, true, false, List, [], ◌∷◌, ◌++◌, Option, Some, None, IfSome}
 use Rattle.mc_item.specs.declared.bodies.Body.{Body}
@@ -24,11 +24,12 @@ use Rattle.mc_registers.specs.Guarantees.{IsSteadyRun, has_written, is_done, is_
 use Rattle.mc_registers.specs.Recache.{has_won, is_win}
 use Rattle.mc_registers.specs.Registers.{Done, IsRun}
 use Rattle.mc_registers.specs.Records.{Records}
+use Rattle.mc_world.specs.Homes.{Homes}
 use Rattle.mc_world.specs.Logs.{Log, taken_before}
 use Rattle.mc_pool_laws.specs.Outcomes.{WasAnswered}
-use Rattle.mc_linearizable.specs.Linearizable.{ComesFirst, Executed, IsEarlier}
+use Rattle.mc_linearizable.specs.Linearizable.{ComesFirst, Executed, IsEarlier, IsNotRoutedBack, WasReplied}
 
--- A command's request was answered, and the proxy took this reply to the command. With `noreply`, or if another key of the `get` was lost, the
+-- A command's request was answered, and its proxy took this reply to the command. With `noreply`, or if another key of the `get` was lost, the
 -- client does not see it.
 abbrev pub WasAnsweredBy : Order → Log → Tag → AReply (List ℕ) → Type 0
 WasAnsweredBy order log tag reply = WasAnswered tag log × (outcome_at order tag ≡ Some (Reply reply))
@@ -83,14 +84,16 @@ abbrev pub IsInLife : {order : Order} {histories : ℕ → List Entry} {key : Li
 IsInLife life log x = (taken_before x.place life log ≤ x.number) × (x.number < taken_before x.place (suc life) log)
 
 -- Clients read their own writes. A whole value was stored, and its client was answered so. Then a request was taken that gets the key, and was answered by a
--- hit. The hit shows the value with its flags, or another command that may have written is between the two.
-abbrev pub ClientsReadOwnWrites : Order → (ℕ → List Entry) → Log → List ℕ → Type 0
-ClientsReadOwnWrites order histories log key =
+-- hit. The key was not routed back. The hit shows the value with its flags, or another command that may have written is between the two. The other command was
+-- not answered by its reply before the request of the store was taken, unless the key was routed back from it to the store.
+abbrev pub ClientsReadOwnWrites : Homes → Order → (ℕ → List Entry) → Log → List ℕ → Type 0
+ClientsReadOwnWrites home order histories log key =
     (write read : Executed order histories key) (flags : ℕ) (value : List ℕ) → StoresWhole write.atom flags value → WasDone order log (tag_in write.entry)
     → IsGet read.atom → (shown_flags : ℕ) (number : Option ℕ) (shown : List ℕ) → WasAnsweredBy order log (tag_in read.entry) (Hit shown_flags number shown)
-    → IsEarlier (tag_in write.entry) (tag_in read.entry) log
+    → IsEarlier (tag_in write.entry) (tag_in read.entry) log → IsNotRoutedBack home write read
     → ShowsValue read.atom (Hit shown_flags number shown) flags value
-    ⊎ ((other : Executed order histories key) × ComesBetween write other read × MayHaveWritten other)
+    ⊎ ((other : Executed order histories key) × ComesBetween write other read × MayHaveWritten other
+    × (WasReplied order (tag_in other.entry) → IsEarlier (tag_in other.entry) (tag_in write.entry) log → IsNotRoutedBack home other write → ⊥))
 
 -- Clients lose no write by `cas`. A hit of `gets` or `gats` showed a number, and its client was answered so. Then a request was taken that compares this
 -- number, and was answered that it stored. Both were executed in one life of one server. So no command between the two has written.

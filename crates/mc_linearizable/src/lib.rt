@@ -17,9 +17,10 @@ pub use clients::{
     clients_lose_no_cas, clients_read_own_writes, commands_are_in_their_run, one_client_fills,
     one_client_wins,
 };
-pub use examples::a_restart_and_a_join_are_linearizable;
+pub use examples::{a_restart_and_a_join_are_linearizable, two_rings_show_older_values};
 pub use laws::{
     every_run_is_linearizable, pipelined_commands_keep_their_order, pools_are_linearizable,
+    rings_that_grow_route_no_key_back,
 };
 pub use losses::{
     lost_commands_happen_at_most_once, lost_commands_may_come_late, lost_commands_may_never_happen,

@@ -11,6 +11,7 @@ ghost use Rattle.mc_account.specs.Orders.{Order};
 ghost use Rattle.mc_history.specs.declared.entries.Entry.{Entry};
 ghost use Rattle.mc_history.specs.Histories.{HasNone, tag_in};
 ghost use Rattle.mc_world.specs.Accounts.{Account, Accounts, up_when_taken};
+ghost use Rattle.mc_world.specs.Homes.{Homes};
 ghost use Rattle.mc_world.specs.Logs.{Log};
 ghost use Rattle.mc_pool_laws.specs.Sent.{IsSent};
 ghost use Rattle.mc_pool_laws.specs.Outcomes.{HasOneEntry};
@@ -20,8 +21,8 @@ ghost use Rattle.mc_linearizable.specs.Linearizable.{ComesFirst, Executed, IsEar
 /// command too, with either choice for lost commands. In the account `lost_commands_may_come_late` it happens, and in
 /// `lost_commands_may_never_happen` it does not.
 pub fn lost_commands_happen_at_most_once()
-    ensures { (losses : Losses) (ring : RingState) (opening : CacheState) (texts outs : ℕ → List ℕ) (histories : ℕ → List Entry) (log : Log)
-        → Account losses ring opening texts outs histories log → (tag : Tag) (command : Routed) → IsSent ring texts log tag command
+    ensures { (home : Homes) (losses : Losses) (ring : RingState) (opening : CacheState) (texts outs : ℕ → List ℕ) (histories : ℕ → List Entry) (log : Log)
+        → Account home losses ring opening texts outs histories log → (tag : Tag) (command : Routed) → IsSent home ring texts log tag command
         → ((place : ℕ) → HasNone (histories place) tag) ⊎ HasOneEntry histories command.server tag }
 {}
 
@@ -29,7 +30,7 @@ pub fn lost_commands_happen_at_most_once()
 /// was executed late, on its lost generation. So the first command was answered before the second was taken, and is not first in the key's order.
 pub fn lost_commands_may_come_late()
     ensures { (ring : RingState) × (order : Order) × (outs : ℕ → List ℕ) × (histories : ℕ → List Entry) × (log : Log) × IsRing ring
-        × Accounts Told ring (opening_cache 1000 10 0) order
+        × Accounts (λ _. 0) Told ring (opening_cache 1000 10 0) order
         (λ client. if 0 == client then codes "set k 0 0 1\r\na\r\nset k 0 0 1\r\nb\r\nget k\r\n" else []) outs histories log
         × (outs 0 ≡ codes "SERVER_ERROR link lost\r\nSTORED\r\nVALUE k 0 1\r\na\r\nEND\r\n")
         × (a : Executed order histories (codes "k")) × (b : Executed order histories (codes "k"))
@@ -40,6 +41,6 @@ pub fn lost_commands_may_come_late()
 /// command.
 pub fn lost_commands_may_never_happen()
     ensures { (ring : RingState) × (order : Order) × (outs : ℕ → List ℕ) × (histories : ℕ → List Entry) × (log : Log) × IsRing ring
-        × Accounts Told ring (opening_cache 1000 10 0) order (λ client. if 0 == client then codes "set k 0 0 1\r\na\r\n" else []) outs histories log
-        × (outs 0 ≡ codes "SERVER_ERROR link lost\r\n") × up_when_taken 0 (tag_of 0 0 0) log × ((place : ℕ) → HasNone (histories place) (tag_of 0 0 0)) }
+        × Accounts (λ _. 0) Told ring (opening_cache 1000 10 0) order (λ client. if 0 == client then codes "set k 0 0 1\r\na\r\n" else []) outs histories log
+        × (outs 0 ≡ codes "SERVER_ERROR link lost\r\n") × up_when_taken 0 0 (tag_of 0 0 0) log × ((place : ℕ) → HasNone (histories place) (tag_of 0 0 0)) }
 {}

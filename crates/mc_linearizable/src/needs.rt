@@ -17,7 +17,7 @@ ghost use Rattle.mc_linearizable.specs.Linearizable.{ComesFirst, Executed, IsEar
 /// command is between the two: the get is first.
 pub fn early_gets_show_older_values()
     ensures { (ring : RingState) × (order : Order) × (outs : ℕ → List ℕ) × (histories : ℕ → List Entry) × (log : Log) × IsRing ring
-        × Accounts Told ring (opening_cache 1000 10 0) order
+        × Accounts (λ _. 0) Told ring (opening_cache 1000 10 0) order
         (λ client. if 0 == client then codes "set k 0 0 1\r\na\r\nget k\r\nset k 0 0 1\r\nb\r\n" else []) outs histories log
         × (outs 0 ≡ codes "STORED\r\nVALUE k 0 1\r\na\r\nEND\r\nSTORED\r\n")
         × (write : Executed order histories (codes "k")) × (read : Executed order histories (codes "k")) × StoresWhole write.atom 0 (codes "b")
@@ -29,7 +29,7 @@ pub fn early_gets_show_older_values()
 /// The client sets the key there, under the same number, and a `cas` with it stores. So the set between the two is lost.
 pub fn numbers_fit_another_server()
     ensures { (ring : RingState) × (order : Order) × (outs : ℕ → List ℕ) × (histories : ℕ → List Entry) × (log : Log) × IsRing ring
-        × Accounts Told ring (opening_cache 1000 10 0) order
+        × Accounts (λ _. 0) Told ring (opening_cache 1000 10 0) order
         (λ client. if 0 == client then codes "set k 0 0 1\r\na\r\ngets k\r\nget k\r\nset k 0 0 1\r\nb\r\ncas k 0 0 1 1\r\nc\r\n" else []) outs histories log
         × (read : Executed order histories (codes "k")) × (cas : Executed order histories (codes "k")) × (other : Executed order histories (codes "k"))
         × IsGet read.atom × WasAnsweredBy order log (tag_in read.entry) (Hit 0 (Some 1) (codes "a")) × Compares cas.atom 1 × WasDone order log (tag_in cas.entry)
@@ -40,7 +40,7 @@ pub fn numbers_fit_another_server()
 /// order. No clause of an account forbids it.
 pub fn lost_commands_may_come_early()
     ensures { (ring : RingState) × (order : Order) × (outs : ℕ → List ℕ) × (histories : ℕ → List Entry) × (log : Log) × IsRing ring
-        × Accounts Told ring (opening_cache 1000 10 0) order (λ client. if 0 == client then codes "set k 0 0 1\r\na\r\nset k 0 0 1\r\nb\r\n" else []) outs histories log
+        × Accounts (λ _. 0) Told ring (opening_cache 1000 10 0) order (λ client. if 0 == client then codes "set k 0 0 1\r\na\r\nset k 0 0 1\r\nb\r\n" else []) outs histories log
         × (outs 0 ≡ codes "STORED\r\nSERVER_ERROR link lost\r\n")
         × (a : Executed order histories (codes "k")) × (b : Executed order histories (codes "k")) × (a.entry.client ≡ b.entry.client)
         × IsBefore (tag_in a.entry) (tag_in b.entry) × WasReplied order (tag_in a.entry) × (ComesFirst a b → ⊥) }

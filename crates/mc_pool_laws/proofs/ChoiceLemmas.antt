@@ -30,31 +30,32 @@ use Rattle.mc_proxy.specs.Sending.{tag_of}
 use Rattle.mc_history.specs.declared.entries.Entry.{Entry}
 use Rattle.mc_history.specs.Histories.{HasReply}
 use Rattle.mc_world.specs.Accounts.{WasNeverSentOrLost}
+use Rattle.mc_world.specs.Homes.{Homes}
 use Rattle.mc_world.specs.Logs.{Log}
 use Rattle.mc_pool_laws.specs.Choices.{HaveReplies, ShowReplies, ShowsReply}
 use Rattle.mc_pool_laws.specs.Outcomes.{HaveOutcomesBy, IsAnswerTo, HasOutcomeBy}
 
 -- what is shown for a key
-shown_part : (histories : ℕ → List Entry) (log : Log) (tag : Tag) (command : Routed) (key : List ℕ) (outcome : Outcome) → HasOutcomeBy histories log tag command outcome
+shown_part : (home : Homes) (histories : ℕ → List Entry) (log : Log) (tag : Tag) (command : Routed) (key : List ℕ) (outcome : Outcome) → HasOutcomeBy home histories log tag command outcome
     → (outcome_part key outcome ≡ []) ⊎ ShowsReply histories tag command key (outcome_part key outcome)
-shown_part histories log tag command key (Reply (Hit flags cas value)) told = inr (record { flags = flags; cas = cas; value = value; shown = refl; replied = told })
-shown_part histories log tag command key (Reply other) told = inl refl
-shown_part histories log tag command key Lost told = inl refl
-shown_part histories log tag command key Awaited told = inl refl
+shown_part home histories log tag command key (Reply (Hit flags cas value)) told = inr (record { flags = flags; cas = cas; value = value; shown = refl; replied = told })
+shown_part home histories log tag command key (Reply other) told = inl refl
+shown_part home histories log tag command key Lost told = inl refl
+shown_part home histories log tag command key Awaited told = inl refl
 
-shown_blocks : (histories : ℕ → List Entry) (log : Log) (client request at : ℕ) (commands : List Routed) (outcomes : List Outcome) (keys : List (List ℕ))
-    → HaveOutcomesBy histories log client request at commands outcomes → ShowReplies histories client request at commands keys (blocks_by keys outcomes)
-shown_blocks histories log client request at [] [] [] told = refl
-shown_blocks histories log client request at [] [] (key ∷ keys) told = refl
-shown_blocks histories log client request at [] (o ∷ os) keys told = absurd told
-shown_blocks histories log client request at (c ∷ cs) [] keys told = absurd told
-shown_blocks histories log client request at (c ∷ cs) (o ∷ os) [] told = refl
-shown_blocks histories log client request at (c ∷ cs) (o ∷ os) (key ∷ keys) told = (
+shown_blocks : (home : Homes) (histories : ℕ → List Entry) (log : Log) (client request at : ℕ) (commands : List Routed) (outcomes : List Outcome) (keys : List (List ℕ))
+    → HaveOutcomesBy home histories log client request at commands outcomes → ShowReplies histories client request at commands keys (blocks_by keys outcomes)
+shown_blocks home histories log client request at [] [] [] told = refl
+shown_blocks home histories log client request at [] [] (key ∷ keys) told = refl
+shown_blocks home histories log client request at [] (o ∷ os) keys told = absurd told
+shown_blocks home histories log client request at (c ∷ cs) [] keys told = absurd told
+shown_blocks home histories log client request at (c ∷ cs) (o ∷ os) [] told = refl
+shown_blocks home histories log client request at (c ∷ cs) (o ∷ os) (key ∷ keys) told = (
   outcome_part key o,
   blocks_by keys os,
   refl,
-  shown_part histories log (tag_of client request at) c key o told.0,
-  shown_blocks histories log client request (suc at) cs os keys told.1,
+  shown_part home histories log (tag_of client request at) c key o told.0,
+  shown_blocks home histories log client request (suc at) cs os keys told.1,
 )
 
 abbrev Shows : (ℕ → List Entry) → ℕ → ℕ → List Routed → List (List ℕ) → List ℕ → Type 0
@@ -62,17 +63,17 @@ Shows histories client request commands keys answer =
     (shown : List ℕ) × (answer ≡ shown ++ end_line) × ShowReplies histories client request 0 commands keys shown
 
 -- the bytes of an answer to a whole request
-bytes_of : (losses : Losses) (ring : RingState) (texts : ℕ → List ℕ) (histories : ℕ → List Entry) (log : Log) (client request : ℕ) (answer : List ℕ)
-    → (h : IsAnswerTo losses ring texts histories log client request answer) → (what : Request) → h.what ≡ Whole what → answer ≡ joined_with losses what h.outcomes
-bytes_of losses ring texts histories log client request answer h what is = h.bytes ∙ ap (λ (t : Parsed). answer_by losses t h.outcomes) is
+bytes_of : (home : Homes) (losses : Losses) (ring : RingState) (texts : ℕ → List ℕ) (histories : ℕ → List Entry) (log : Log) (client request : ℕ) (answer : List ℕ)
+    → (h : IsAnswerTo home losses ring texts histories log client request answer) → (what : Request) → h.what ≡ Whole what → answer ≡ joined_with losses what h.outcomes
+bytes_of home losses ring texts histories log client request answer h what is = h.bytes ∙ ap (λ (t : Parsed). answer_by losses t h.outcomes) is
 
-pub shown_missed : (ring : RingState) (texts : ℕ → List ℕ) (histories : ℕ → List Entry) (log : Log) (client request : ℕ) (answer : List ℕ)
-    → (h : IsAnswerTo Missed ring texts histories log client request answer) → (keys : List (List ℕ)) (exptime : Option ℤ) (with_cas : Bool) → h.what ≡ Whole (Get keys exptime with_cas)
+pub shown_missed : (home : Homes) (ring : RingState) (texts : ℕ → List ℕ) (histories : ℕ → List Entry) (log : Log) (client request : ℕ) (answer : List ℕ)
+    → (h : IsAnswerTo home Missed ring texts histories log client request answer) → (keys : List (List ℕ)) (exptime : Option ℤ) (with_cas : Bool) → h.what ≡ Whole (Get keys exptime with_cas)
     → Shows histories client request (route_of_taken h.ring h.what) keys answer
-shown_missed ring texts histories log client request answer h keys exptime with_cas is = (
+shown_missed home ring texts histories log client request answer h keys exptime with_cas is = (
   blocks_by keys h.outcomes,
-  bytes_of Missed ring texts histories log client request answer h (Get keys exptime with_cas) is ∙ joined-items keys exptime with_cas h.outcomes,
-  shown_blocks histories log client request 0 (route_of_taken h.ring h.what) h.outcomes keys h.told,
+  bytes_of home Missed ring texts histories log client request answer h (Get keys exptime with_cas) is ∙ joined-items keys exptime with_cas h.outcomes,
+  shown_blocks home histories log client request 0 (route_of_taken h.ring h.what) h.outcomes keys h.told,
 )
 
 -- if no command was lost, the choice plays no part
@@ -90,71 +91,71 @@ told_unlost what outcomes answer is differ =
       | false ↦ λ none. none
     ]) refl
 
-pub shown_told : (ring : RingState) (texts : ℕ → List ℕ) (histories : ℕ → List Entry) (log : Log) (client request : ℕ) (answer : List ℕ)
-    → (h : IsAnswerTo Told ring texts histories log client request answer) → (keys : List (List ℕ)) (exptime : Option ℤ) (with_cas : Bool) → h.what ≡ Whole (Get keys exptime with_cas)
+pub shown_told : (home : Homes) (ring : RingState) (texts : ℕ → List ℕ) (histories : ℕ → List Entry) (log : Log) (client request : ℕ) (answer : List ℕ)
+    → (h : IsAnswerTo home Told ring texts histories log client request answer) → (keys : List (List ℕ)) (exptime : Option ℤ) (with_cas : Bool) → h.what ≡ Whole (Get keys exptime with_cas)
     → answer ≢ lost_line → Shows histories client request (route_of_taken h.ring h.what) keys answer
-shown_told ring texts histories log client request answer h keys exptime with_cas is differ =
-    let bytes = bytes_of Told ring texts histories log client request answer h (Get keys exptime with_cas) is in
+shown_told home ring texts histories log client request answer h keys exptime with_cas is differ =
+    let bytes = bytes_of home Told ring texts histories log client request answer h (Get keys exptime with_cas) is in
     let none = told_unlost (Get keys exptime with_cas) h.outcomes answer bytes differ in (
       blocks_by keys h.outcomes,
       bytes ∙ same_unlost (Get keys exptime with_cas) h.outcomes none ∙ joined-items keys exptime with_cas h.outcomes,
-      shown_blocks histories log client request 0 (route_of_taken h.ring h.what) h.outcomes keys h.told,
+      shown_blocks home histories log client request 0 (route_of_taken h.ring h.what) h.outcomes keys h.told,
     )
 
 -- what an `mg` shows
-abbrev ShowsMeta : RingState → (ℕ → List Entry) → Log → ℕ → ℕ → List ℕ → MetaGet → MetaForm (List (List ℕ)) → List ℕ → Type 0
-ShowsMeta ring histories log client request key get form answer =
+abbrev ShowsMeta : Homes → RingState → (ℕ → List Entry) → Log → ℕ → ℕ → List ℕ → MetaGet → MetaForm (List (List ℕ)) → List ℕ → Type 0
+ShowsMeta home ring histories log client request key get form answer =
     ((reply : AReply (List ℕ)) × (answer ≡ answer_of (Meta (metas.Get key get) form) (reply ∷ []))
     × HasReply (histories (owner_in ring key)) (tag_of client request 0) (meta_spelling reply))
-    ⊎ ((answer ≡ (if form.quiet then [] else codes "EN\r\n")) × WasNeverSentOrLost (owner_in ring key) (tag_of client request 0) (histories (owner_in ring key)) log)
+    ⊎ ((answer ≡ (if form.quiet then [] else codes "EN\r\n")) × WasNeverSentOrLost home (owner_in ring key) (tag_of client request 0) (histories (owner_in ring key)) log)
 
-meta_by : (ring : RingState) (histories : ℕ → List Entry) (log : Log) (client request : ℕ) (key : List ℕ) (get : MetaGet) (form : MetaForm (List (List ℕ)))
-    (outcomes : List Outcome) → HaveOutcomesBy histories log client request 0 (to_owner ring key (atoms.Meta (metas.Get key get)) ∷ []) outcomes
-    → ShowsMeta ring histories log client request key get form (joined_with Missed (Meta (metas.Get key get) form) outcomes)
-meta_by ring histories log client request key get form [] told = absurd told
-meta_by ring histories log client request key get form (Reply reply ∷ []) told = inl (reply, refl, told.0)
-meta_by ring histories log client request key get form (Lost ∷ []) told = inr (joined-meta_lost key get form [], told.0)
-meta_by ring histories log client request key get form (Awaited ∷ []) told = absurd told.0
-meta_by ring histories log client request key get form (o ∷ q ∷ os) told = absurd told.1
+meta_by : (home : Homes) (ring : RingState) (histories : ℕ → List Entry) (log : Log) (client request : ℕ) (key : List ℕ) (get : MetaGet) (form : MetaForm (List (List ℕ)))
+    (outcomes : List Outcome) → HaveOutcomesBy home histories log client request 0 (to_owner ring key (atoms.Meta (metas.Get key get)) ∷ []) outcomes
+    → ShowsMeta home ring histories log client request key get form (joined_with Missed (Meta (metas.Get key get) form) outcomes)
+meta_by home ring histories log client request key get form [] told = absurd told
+meta_by home ring histories log client request key get form (Reply reply ∷ []) told = inl (reply, refl, told.0)
+meta_by home ring histories log client request key get form (Lost ∷ []) told = inr (joined-meta_lost key get form [], told.0)
+meta_by home ring histories log client request key get form (Awaited ∷ []) told = absurd told.0
+meta_by home ring histories log client request key get form (o ∷ q ∷ os) told = absurd told.1
 
-pub shown_meta_missed : (ring : RingState) (texts : ℕ → List ℕ) (histories : ℕ → List Entry) (log : Log) (client request : ℕ) (answer : List ℕ)
-    → (h : IsAnswerTo Missed ring texts histories log client request answer) → (key : List ℕ) (get : MetaGet) (form : MetaForm (List (List ℕ)))
-    → h.what ≡ Whole (Meta (metas.Get key get) form) → ShowsMeta h.ring histories log client request key get form answer
-shown_meta_missed ring texts histories log client request answer h key get form is =
-    subst (λ (bytes : List ℕ). ShowsMeta h.ring histories log client request key get form bytes)
-    (sym (bytes_of Missed ring texts histories log client request answer h (Meta (metas.Get key get) form) is))
-    (meta_by h.ring histories log client request key get form h.outcomes
-    (subst (λ (t : Parsed). HaveOutcomesBy histories log client request 0 (route_of_taken h.ring t) h.outcomes) is h.told))
+pub shown_meta_missed : (home : Homes) (ring : RingState) (texts : ℕ → List ℕ) (histories : ℕ → List Entry) (log : Log) (client request : ℕ) (answer : List ℕ)
+    → (h : IsAnswerTo home Missed ring texts histories log client request answer) → (key : List ℕ) (get : MetaGet) (form : MetaForm (List (List ℕ)))
+    → h.what ≡ Whole (Meta (metas.Get key get) form) → ShowsMeta home h.ring histories log client request key get form answer
+shown_meta_missed home ring texts histories log client request answer h key get form is =
+    subst (λ (bytes : List ℕ). ShowsMeta home h.ring histories log client request key get form bytes)
+    (sym (bytes_of home Missed ring texts histories log client request answer h (Meta (metas.Get key get) form) is))
+    (meta_by home h.ring histories log client request key get form h.outcomes
+    (subst (λ (t : Parsed). HaveOutcomesBy home histories log client request 0 (route_of_taken h.ring t) h.outcomes) is h.told))
 
 -- if no command was lost, each has a reply
-all_replied : (histories : ℕ → List Entry) (log : Log) (client request at : ℕ) (commands : List Routed) (outcomes : List Outcome) → has_lost outcomes ≡ false
-    → HaveOutcomesBy histories log client request at commands outcomes → HaveReplies histories client request at commands (replies_in outcomes)
-all_replied histories log client request at [] [] none told = tt
-all_replied histories log client request at [] (o ∷ os) none told = absurd told
-all_replied histories log client request at (c ∷ cs) [] none told = absurd told
-all_replied histories log client request at (c ∷ cs) (Reply reply ∷ os) none told = (told.0, all_replied histories log client request (suc at) cs os none told.1)
-all_replied histories log client request at (c ∷ cs) (Lost ∷ os) none told = absurd (true≢false none)
-all_replied histories log client request at (c ∷ cs) (Awaited ∷ os) none told = absurd (true≢false none)
+all_replied : (home : Homes) (histories : ℕ → List Entry) (log : Log) (client request at : ℕ) (commands : List Routed) (outcomes : List Outcome) → has_lost outcomes ≡ false
+    → HaveOutcomesBy home histories log client request at commands outcomes → HaveReplies histories client request at commands (replies_in outcomes)
+all_replied home histories log client request at [] [] none told = tt
+all_replied home histories log client request at [] (o ∷ os) none told = absurd told
+all_replied home histories log client request at (c ∷ cs) [] none told = absurd told
+all_replied home histories log client request at (c ∷ cs) (Reply reply ∷ os) none told = (told.0, all_replied home histories log client request (suc at) cs os none told.1)
+all_replied home histories log client request at (c ∷ cs) (Lost ∷ os) none told = absurd (true≢false none)
+all_replied home histories log client request at (c ∷ cs) (Awaited ∷ os) none told = absurd (true≢false none)
 
 abbrev IsReplied : (ℕ → List Entry) → ℕ → ℕ → List Routed → Request → List ℕ → Type 0
 IsReplied histories client request commands what answer =
     (replies : List (AReply (List ℕ))) × (answer ≡ answer_of what replies) × HaveReplies histories client request 0 commands replies
 
-replied_unlost : (losses : Losses) (ring : RingState) (texts : ℕ → List ℕ) (histories : ℕ → List Entry) (log : Log) (client request : ℕ) (answer : List ℕ)
-    → (h : IsAnswerTo losses ring texts histories log client request answer) → (what : Request) → h.what ≡ Whole what → has_lost h.outcomes ≡ false
+replied_unlost : (home : Homes) (losses : Losses) (ring : RingState) (texts : ℕ → List ℕ) (histories : ℕ → List Entry) (log : Log) (client request : ℕ) (answer : List ℕ)
+    → (h : IsAnswerTo home losses ring texts histories log client request answer) → (what : Request) → h.what ≡ Whole what → has_lost h.outcomes ≡ false
     → IsReplied histories client request (route_of_taken h.ring h.what) what answer
-replied_unlost losses ring texts histories log client request answer h what is none = (
+replied_unlost home losses ring texts histories log client request answer h what is none = (
   replies_in h.outcomes,
-  bytes_of losses ring texts histories log client request answer h what is ∙ joined-unlost losses what h.outcomes none,
-  all_replied histories log client request 0 (route_of_taken h.ring h.what) h.outcomes none h.told,
+  bytes_of home losses ring texts histories log client request answer h what is ∙ joined-unlost losses what h.outcomes none,
+  all_replied home histories log client request 0 (route_of_taken h.ring h.what) h.outcomes none h.told,
 )
 
-pub done_told : (ring : RingState) (texts : ℕ → List ℕ) (histories : ℕ → List Entry) (log : Log) (client request : ℕ) (answer : List ℕ)
-    → (h : IsAnswerTo Told ring texts histories log client request answer) → (what : Request) → h.what ≡ Whole what → answer ≢ lost_line
+pub done_told : (home : Homes) (ring : RingState) (texts : ℕ → List ℕ) (histories : ℕ → List Entry) (log : Log) (client request : ℕ) (answer : List ℕ)
+    → (h : IsAnswerTo home Told ring texts histories log client request answer) → (what : Request) → h.what ≡ Whole what → answer ≢ lost_line
     → IsReplied histories client request (route_of_taken h.ring h.what) what answer
-done_told ring texts histories log client request answer h what is differ =
-    replied_unlost Told ring texts histories log client request answer h what is
-    (told_unlost what h.outcomes answer (bytes_of Told ring texts histories log client request answer h what is) differ)
+done_told home ring texts histories log client request answer h what is differ =
+    replied_unlost home Told ring texts histories log client request answer h what is
+    (told_unlost what h.outcomes answer (bytes_of home Told ring texts histories log client request answer h what is) differ)
 
 -- if a command was lost, the answer with `Missed` to a request that is no retrieval is that line,
 -- or empty
@@ -174,9 +175,9 @@ missed_unlost what outcomes answer is other differ some =
       | false ↦ λ none. none
     ]) refl
 
-pub done_missed : (ring : RingState) (texts : ℕ → List ℕ) (histories : ℕ → List Entry) (log : Log) (client request : ℕ) (answer : List ℕ)
-    → (h : IsAnswerTo Missed ring texts histories log client request answer) → (what : Request) → h.what ≡ Whole what → is_retrieval what ≡ false
+pub done_missed : (home : Homes) (ring : RingState) (texts : ℕ → List ℕ) (histories : ℕ → List Entry) (log : Log) (client request : ℕ) (answer : List ℕ)
+    → (h : IsAnswerTo home Missed ring texts histories log client request answer) → (what : Request) → h.what ≡ Whole what → is_retrieval what ≡ false
     → answer ≢ lost_line → answer ≢ [] → IsReplied histories client request (route_of_taken h.ring h.what) what answer
-done_missed ring texts histories log client request answer h what is other differ some =
-    replied_unlost Missed ring texts histories log client request answer h what is
-    (missed_unlost what h.outcomes answer (bytes_of Missed ring texts histories log client request answer h what is) other differ some)
+done_missed home ring texts histories log client request answer h what is other differ some =
+    replied_unlost home Missed ring texts histories log client request answer h what is
+    (missed_unlost what h.outcomes answer (bytes_of home Missed ring texts histories log client request answer h what is) other differ some)

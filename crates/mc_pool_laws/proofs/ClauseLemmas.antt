@@ -7,6 +7,7 @@ use Rattle.mc_cache.specs.CacheState.{CacheState}
 use Rattle.mc_account.specs.Orders.{Order}
 use Rattle.mc_history.specs.declared.entries.Entry.{Entry}
 use Rattle.mc_world.specs.Accounts.{Accounts}
+use Rattle.mc_world.specs.Homes.{Homes}
 use Rattle.mc_world.specs.Logs.{Log}
 use Rattle.mc_pool_laws.specs.Without.{AccountsBut, After, Answered, Asked, Clause, Followed, Legal, Lost, Moments, Numbered, Once, Ordered, Placed, Put, Replied, Rings, Sized, Turns, Unanswered}
 
@@ -17,9 +18,9 @@ is_asked other = false
 others_apart : (one : Clause) → is_asked one ≡ false → Asked ≢ one
 others_apart one is same = true≢false (ap is_asked same ∙ is)
 
-pub each_clause : (losses : Losses) (ring : RingState) (opening : CacheState) (order : Order) (texts outs : ℕ → List ℕ) (histories : ℕ → List Entry) (log : Log)
-    → Accounts losses ring opening order texts outs histories log ↔ ((one : Clause) → AccountsBut one losses ring opening order texts outs histories log)
-each_clause losses ring opening order texts outs histories log = (
+pub each_clause : (home : Homes) (losses : Losses) (ring : RingState) (opening : CacheState) (order : Order) (texts outs : ℕ → List ℕ) (histories : ℕ → List Entry) (log : Log)
+    → Accounts home losses ring opening order texts outs histories log ↔ ((one : Clause) → AccountsBut one home losses ring opening order texts outs histories log)
+each_clause home losses ring opening order texts outs histories log = (
   λ h one. record {
     asked = λ keeps. h.asked;
     turns = λ keeps. h.turns;

@@ -11,6 +11,7 @@ use Rattle.mc_world.specs.declared.events.Event.{Event}
 use Rattle.mc_world.specs.declared.events.Event.TheVariants.{ClientBytes, ClientGone, ClientTakes, Emit, LinkBack, LinkLost, ProxyTurn, ReplyTurn, ServerSeesEnd, ServerTurn, ToProxy, ToServer}
 use Rattle.mc_world.specs.Accounts.{Account}
 use Rattle.mc_world.specs.Applies.{IsThere}
+use Rattle.mc_world.specs.Homes.{Homes}
 use Rattle.mc_world.specs.Drains.{AreDone, Drains, is_of_drain}
 use Rattle.mc_world.specs.Logs.{Log}
 use Rattle.mc_world.specs.Quiet.{IsQuiet}
@@ -25,15 +26,15 @@ drained_event : (moment : ℕ) (event : Event (List ℕ)) → is_of_drain moment
 drained_event moment (ClientBytes client bytes) h = absurd (false≢true h)
 drained_event moment (ClientGone client) h = absurd (false≢true h)
 drained_event moment (ProxyTurn client) h = refl
-drained_event moment (ToServer server generation count) h = refl
-drained_event moment (ServerTurn server generation at) h = h
-drained_event moment (ToProxy server count) h = refl
-drained_event moment (ReplyTurn server) h = refl
+drained_event moment (ToServer proxy server generation count) h = refl
+drained_event moment (ServerTurn proxy server generation at) h = h
+drained_event moment (ToProxy proxy server count) h = refl
+drained_event moment (ReplyTurn proxy server) h = refl
 drained_event moment (Emit client) h = refl
 drained_event moment (ClientTakes client count) h = refl
-drained_event moment (LinkLost server) h = absurd (false≢true h)
-drained_event moment (LinkBack server) h = absurd (false≢true h)
-drained_event moment (ServerSeesEnd server generation) h = refl
+drained_event moment (LinkLost proxy server) h = absurd (false≢true h)
+drained_event moment (LinkBack proxy server) h = absurd (false≢true h)
+drained_event moment (ServerSeesEnd proxy server generation) h = refl
 
 -- the entries that are added to a log
 abbrev Adds : ℕ → Log → Log → Type 0
@@ -53,12 +54,12 @@ pub drain_adds : (moment : ℕ) (old new : CourseState) → Drains moment old ne
 drain_adds moment old new h = events_add moment h.events old new h.all h.done
 
 -- a client that has not gone took the answers to all its requests
-pub all_answered : (losses : Losses) (ring : RingState) (opening : CacheState) (c : CourseState) → Account losses ring opening (text_of c) (put_out_of c) (history_of c) c.log → IsQuiet c
+pub all_answered : (home : Homes) (losses : Losses) (ring : RingState) (opening : CacheState) (c : CourseState) → Account home losses ring opening (text_of c) (put_out_of c) (history_of c) c.log → IsQuiet c
     → (client : ℕ) → IsThere client c.pool
     → (answers : List (List ℕ)) × (length answers ≡ length (requests_of (text_of c client))) × (taken_by c client ≡ concat answers)
-    × AreAnswersFrom losses ring (text_of c) (history_of c) c.log client 0 answers
-all_answered losses ring opening c account quiet client there =
-    let put = put_answers losses ring opening account.0 (text_of c) (put_out_of c) (history_of c) c.log account.1 client in
+    × AreAnswersFrom home losses ring (text_of c) (history_of c) c.log client 0 answers
+all_answered home losses ring opening c account quiet client there =
+    let put = put_answers home losses ring opening account.0 (text_of c) (put_out_of c) (history_of c) c.log account.1 client in
     let all : put_out_of c client ≡ taken_by c client =
     ap (λ (bytes : List ℕ). taken_by c client ++ bytes) (quiet.taken client) ∙ append-nil (taken_by c client) in
     (put.0, put.1 ∙ quiet.answered client there, sym all ∙ put.2, put.3)

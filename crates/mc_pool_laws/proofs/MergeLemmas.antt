@@ -18,7 +18,7 @@ times place [] = 0
 times place (other ∷ others) = if other == place then suc (times place others) else times place others
 
 turn-one : (place : ℕ) (e : Logged) (others : List ℕ) → times place (turn_of e ++ others) ≡ (if serves place e then suc (times place others) else times place others)
-turn-one place (Happened (ServerTurn at generation moment)) others = refl
+turn-one place (Happened (ServerTurn proxy at generation moment)) others = refl
 turn-one place other others = refl
 
 pub turns-count : (place : ℕ) (log : Log) → times place (turns_of log) ≡ number_of (serves place) log

@@ -41,7 +41,7 @@ use Rattle.mc_world.specs.Logs.{IsRingAfter, Log, before, number_of, puts, serve
 use Rattle.mc_world.specs.declared.logs.Logged.TheVariants.{Happened}
 use Rattle.mc_history.specs.declared.entries.Entry.{Entry}
 use Rattle.mc_history.specs.Histories.{HasNone, HasReply, IsLegal, tag_in}
-use Rattle.mc_pool_laws.proofs.NeedLemmas.{first_only, first_there, follows_lost, lives_of_first, loses_one, none_there, one_here, one_server, outcome_in_request, outs_of, own_by, puts_one, returns_one, serves_one, takes_one}
+use Rattle.mc_pool_laws.proofs.NeedLemmas.{first_only, first_there, followed_one, follows_lost, lives_of_first, loses_one, none_there, one_here, one_home, one_server, outcome_in_request, outs_of, own_by, puts_one, returns_one, serves_one, takes_one}
 use Rattle.mc_pool_laws.proofs.SentLemmas.{in_request}
 
 -- its key, and the commands on it
@@ -119,7 +119,7 @@ taken_two = stored ∷ found ∷ []
 
 abbrev three_log : Log
 three_log =
-    takes_one ∷ serves_one ∷ puts_one ∷ loses_one ∷ takes_one ∷ puts_one ∷ returns_one ∷ takes_one ∷ Happened (ServerTurn 0 2 5) ∷ puts_one ∷ []
+    takes_one ∷ serves_one ∷ puts_one ∷ loses_one ∷ takes_one ∷ puts_one ∷ returns_one ∷ takes_one ∷ Happened (ServerTurn 0 0 2 5) ∷ puts_one ∷ []
 
 -- the elements of a list of two, and of three
 pub in_two : {X : Type 0} (a b : X) (k : ℕ) (y : X) → slice_get (a ∷ b ∷ []) k ≡ Some y → ((k ≡ 0) × (y ≡ a)) ⊎ ((k ≡ 1) × (y ≡ b))
@@ -193,7 +193,7 @@ after_three client request early =
 
 -- each is routed by the ring, which stays
 abbrev IsRouted : ℕ → ℕ → TakenRequest → Type 0
-IsRouted client request x = IsRingAfter one_server (before (takes client) request three_log) x.ring
+IsRouted client request x = IsRingAfter 0 one_server (before (takes client) request three_log) x.ring
 
 rings_by : (client request : ℕ) (x : TakenRequest) → asked_at three client request ≡ Some x → IsRouted client request x
 rings_by client request x at =
@@ -292,7 +292,7 @@ never_sent tag is k e at same =
     ]
 
 abbrev IsNotSent : ℕ → Tag → Type 0
-IsNotSent place tag = WasNeverSentOrLost place tag (first_only taken_two place) three_log
+IsNotSent place tag = WasNeverSentOrLost one_home place tag (first_only taken_two place) three_log
 
 lost_by : (tag : Tag) (place : ℕ) (atom : Atom (List ℕ)) → command_at three tag ≡ Some (to_place place atom) → outcome_at three tag ≡ Some outcomes.Lost
     → IsNotSent place tag
@@ -358,7 +358,7 @@ moments_by : (v : Bool) → map (λ (e : Entry). e.moment) (if v then taken_two 
 moments_by true = refl
 moments_by false = refl
 
-three_accounts : Accounts Missed one_server (opening_cache 1000 10 0) three text_of (outs_of Missed three three_log) (first_only taken_two) three_log
+three_accounts : Accounts one_home Missed one_server (opening_cache 1000 10 0) three text_of (outs_of Missed three three_log) (first_only taken_two) three_log
 three_accounts = record {
   asked = λ client. asked_text (0 == client);
   turns = refl;
@@ -374,7 +374,7 @@ three_accounts = record {
   lost = lost_by;
   ordered = λ place j k d e r q at also less same first_reply second_reply.
       before_by j k d e (in_two stored found j d (first_there taken_two place j d at).1) (in_two stored found k e (first_there taken_two place k e also).1) less;
-  followed = λ place none. follows_lost (0 == place) taken_two _ none;
+  followed = followed_one three (first_only taken_two) three_log (λ place none. follows_lost (0 == place) taken_two _ none);
   answered = λ client. complete_by (0 == client);
   put = λ client. refl;
   after = after_three;
@@ -393,6 +393,6 @@ unfolding digits
 put_out = refl
 
 pub missed_and_found : (ring : RingState) × (outs : ℕ → List ℕ) × (histories : ℕ → List Entry) × (log : Log)
-    × Account Missed ring (opening_cache 1000 10 0) (λ client. if 0 == client then codes "set k 0 0 1\r\nv\r\nget k\r\nget k\r\n" else []) outs histories log
+    × Account one_home Missed ring (opening_cache 1000 10 0) (λ client. if 0 == client then codes "set k 0 0 1\r\nv\r\nget k\r\nget k\r\n" else []) outs histories log
     × (outs 0 ≡ codes "STORED\r\nEND\r\nVALUE k 0 1\r\nv\r\nEND\r\n")
 missed_and_found = (one_server, outs_of Missed three three_log, first_only taken_two, three_log, (three, three_accounts), put_out)

@@ -38,7 +38,8 @@ use Rattle.mc_history.specs.Histories.{IsLegal, tag_in}
 use Rattle.mc_history.specs.Named.{tags_of}
 use Rattle.mc_world.proofs.Log.LifeLemmas.{legal_unrestarted}
 use Rattle.mc_world.specs.Accounts.{WasTaken, answers_by}
-use Rattle.mc_world.specs.Logs.{IsRingAfter, Log, before, in_life, loses, moments_of, number_of, puts, restarts, serves, takes, turns_of}
+use Rattle.mc_world.specs.Homes.{Homes, of_proxy, tags_through}
+use Rattle.mc_world.specs.Logs.{IsRingAfter, Log, before, drops, in_life, moments_of, number_of, puts, restarts, serves, takes, turns_of}
 use Rattle.mc_world.specs.declared.events.Event.TheVariants.{Emit, LinkBack, LinkLost, ProxyTurn, ServerTurn}
 use Rattle.mc_world.specs.declared.logs.Logged.{Logged}
 use Rattle.mc_world.specs.declared.logs.Logged.TheVariants.{Happened}
@@ -47,22 +48,26 @@ use Rattle.mc_pool_laws.specs.Outcomes.{IsUnaccounted}
 use Rattle.mc_pool_laws.specs.Without.{AccountsBut, After, Allows, Answered, Asked, Clause, Legal, Lost, Moments, Once, Placed, Put, Replied, Rings, Sized, Turns}
 use Rattle.mc_pool_laws.proofs.SentLemmas.{in_request}
 
+-- one proxy
+abbrev pub one_home : Homes
+one_home client = 0
+
 -- the entries of the examples: a request of client 0 is taken, server 0 takes one, an answer of client 0 is emitted
 abbrev pub takes_one : Logged
 takes_one = Happened (ProxyTurn 0)
 
 abbrev pub serves_one : Logged
-serves_one = Happened (ServerTurn 0 1 5)
+serves_one = Happened (ServerTurn 0 0 1 5)
 
 abbrev pub puts_one : Logged
 puts_one = Happened (Emit 0)
 
 -- the link of server 0 is lost, and comes up
 abbrev pub loses_one : Logged
-loses_one = Happened (LinkLost 0)
+loses_one = Happened (LinkLost 0 0)
 
 abbrev pub returns_one : Logged
-returns_one = Happened (LinkBack 0)
+returns_one = Happened (LinkBack 0 0)
 
 -- a ring of one server, and one of none
 abbrev pub one_server : RingState
@@ -194,6 +199,46 @@ pub follows_lost : (v : Bool) (es : List Entry) (tags : List Tag) → ◌≡◌ 
 follows_lost true es tags none = absurd (omega (arith, none))
 follows_lost false es tags none = (tags, refl)
 
+-- the requests that the one proxy took, and the tags of its clients' entries, are all; another took none
+all_its : (order : Order) (proxy : ℕ) → (0 == proxy) ≡ true → of_proxy one_home proxy order ≡ order
+all_its [] proxy own = refl
+all_its (e ∷ es) proxy own =
+    ap (λ (v : Bool). if v then e ∷ of_proxy one_home proxy es else of_proxy one_home proxy es) own ∙ ap (λ (xs : Order). e ∷ xs) (all_its es proxy own)
+
+none_its : (order : Order) (proxy : ℕ) → (0 == proxy) ≡ false → of_proxy one_home proxy order ≡ []
+none_its [] proxy other = refl
+none_its (e ∷ es) proxy other =
+    ap (λ (v : Bool). if v then e ∷ of_proxy one_home proxy es else of_proxy one_home proxy es) other ∙ none_its es proxy other
+
+tags_its : (es : List Entry) (proxy : ℕ) → (0 == proxy) ≡ true → tags_through one_home proxy es ≡ map tag_in es
+tags_its [] proxy own = refl
+tags_its (e ∷ es) proxy own =
+    ap (λ (v : Bool). if v then tag_in e ∷ tags_through one_home proxy es else tags_through one_home proxy es) own ∙ ap (λ (ts : List Tag). tag_in e ∷ ts) (tags_its es proxy own)
+
+no_tags : (es : List Entry) (proxy : ℕ) → (0 == proxy) ≡ false → tags_through one_home proxy es ≡ []
+no_tags [] proxy other = refl
+no_tags (e ∷ es) proxy other =
+    ap (λ (v : Bool). if v then tag_in e ∷ tags_through one_home proxy es else tags_through one_home proxy es) other ∙ no_tags es proxy other
+
+pub followed_one : (order : Order) (histories : ℕ → List Entry) (log : Log)
+    → ((place : ℕ) → number_of (drops 0 place) log ≡ 0 → Follows (histories place) (tags_of (commands_to place order)))
+    → (proxy place : ℕ) → number_of (drops proxy place) log ≡ 0
+    → (untaken : List Tag) × (tags_through one_home proxy (histories place) ++ untaken ≡ tags_of (commands_to place (of_proxy one_home proxy order)))
+followed_one order histories log own proxy place none =
+    (elim (0 == proxy) as (λ v. (0 == proxy) ≡ v
+    → (untaken : List Tag) × (tags_through one_home proxy (histories place) ++ untaken ≡ tags_of (commands_to place (of_proxy one_home proxy order)))) [
+      | true ↦ λ its.
+          let here = own place (subst (λ (p : ℕ). number_of (drops p place) log ≡ 0) (sym (own_by proxy its)) none) in (
+            here.0,
+            ap (λ (ts : List Tag). ts ++ here.0) (tags_its (histories place) proxy its) ∙ here.1
+                ∙ ap (λ (xs : Order). tags_of (commands_to place xs)) (sym (all_its order proxy its)),
+          )
+      | false ↦ λ other. (
+        [],
+        ap (λ (ts : List Tag). ts ++ []) (no_tags (histories place) proxy other) ∙ ap (λ (xs : Order). tags_of (commands_to place xs)) (sym (none_its order proxy other)),
+      )
+    ]) refl
+
 -- the outcomes of the commands of one request
 pub outcome_in_request : (o : Option TakenRequest) (atom : ℕ) (q : Outcome) → outcome_in o atom ≡ Some q → (e : TakenRequest) × (o ≡ Some e) × (slice_get e.outcomes atom ≡ Some q)
 outcome_in_request None atom q h = absurd (none-some q h)
@@ -240,11 +285,11 @@ answered_but : (one : Clause) (losses : Losses) (ring by : RingState) (what : Pa
     → (one ≢ Answered → is_complete (asked_by by what told) ≡ true)
     → (one ≢ Replied → (tag : Tag) (reply : AReply (List ℕ)) → outcome_at (asked_by by what told ∷ []) tag ≡ Some (outcomes.Reply reply) → ⊥)
     → (one ≢ Lost → (tag : Tag) → outcome_at (asked_by by what told ∷ []) tag ≡ Some outcomes.Lost → ⊥)
-    → AccountsBut one losses ring a_cache (asked_by by what told ∷ []) texts (outs_of losses (asked_by by what told ∷ []) answered_log) no_history answered_log
+    → AccountsBut one one_home losses ring a_cache (asked_by by what told ∷ []) texts (outs_of losses (asked_by by what told ∷ []) answered_log) no_history answered_log
 answered_but one losses ring by what told texts asked routed sized known replied lost =
     grind (arith, none_there, asked_only, one_of, complete_of, numbered_one, after_one)
 
-untold : IsUnaccounted one_server flush_text no_history answered_log
+untold : IsUnaccounted one_home one_server flush_text no_history answered_log
 untold = record {
   tag = tag_of 0 0 0;
   command = to_place 0 flush;
@@ -265,10 +310,11 @@ untold = record {
 }
 
 -- a request is taken that no client sent
-pub without_asked : Allows Asked (λ ring opening texts outs histories log. length (requests_of (texts 0)) < number_of (takes 0) log)
+pub without_asked : Allows Asked (λ home ring opening texts outs histories log. length (requests_of (texts 0)) < number_of (takes 0) log)
 without_asked losses =
     let e = asked_by one_server (Faulty UnknownCommand) [] in
     let none : length (requests_of []) ≡ 0 = ap (λ (ts : List Parsed). length ts) nothing_read in (
+      one_home,
       one_server,
       a_cache,
       no_text,
@@ -285,9 +331,10 @@ without_asked losses =
     )
 
 -- a request is routed by a ring of no server
-pub without_rings : Allows Rings (λ ring opening texts outs histories log. IsUnaccounted ring texts histories log)
+pub without_rings : Allows Rings (λ home ring opening texts outs histories log. IsUnaccounted home ring texts histories log)
 without_rings losses =
     let e = asked_by no_server flush_asked [] in (
+      one_home,
       one_server,
       a_cache,
       flush_text,
@@ -304,9 +351,10 @@ without_rings losses =
     )
 
 -- a command has no outcome
-pub without_sized : Allows Sized (λ ring opening texts outs histories log. IsUnaccounted ring texts histories log)
+pub without_sized : Allows Sized (λ home ring opening texts outs histories log. IsUnaccounted home ring texts histories log)
 without_sized losses =
     let e = asked_by one_server flush_asked [] in (
+      one_home,
       one_server,
       a_cache,
       flush_text,
@@ -323,9 +371,10 @@ without_sized losses =
     )
 
 -- a request is answered whose command is awaited
-pub without_answered : Allows Answered (λ ring opening texts outs histories log. IsUnaccounted ring texts histories log)
+pub without_answered : Allows Answered (λ home ring opening texts outs histories log. IsUnaccounted home ring texts histories log)
 without_answered losses =
     let e = asked_by one_server flush_asked (outcomes.Awaited ∷ []) in (
+      one_home,
       one_server,
       a_cache,
       flush_text,
@@ -343,9 +392,10 @@ without_answered losses =
     )
 
 -- a reply that no server gave
-pub without_replied : Allows Replied (λ ring opening texts outs histories log. IsUnaccounted ring texts histories log)
+pub without_replied : Allows Replied (λ home ring opening texts outs histories log. IsUnaccounted home ring texts histories log)
 without_replied losses =
     let e = asked_by one_server flush_asked (outcomes.Reply Flushed ∷ []) in (
+      one_home,
       one_server,
       a_cache,
       flush_text,
@@ -362,9 +412,10 @@ without_replied losses =
     )
 
 -- a loss that the log does not show
-pub without_lost : Allows Lost (λ ring opening texts outs histories log. IsUnaccounted ring texts histories log)
+pub without_lost : Allows Lost (λ home ring opening texts outs histories log. IsUnaccounted home ring texts histories log)
 without_lost losses =
     let e = asked_by one_server flush_asked (outcomes.Lost ∷ []) in (
+      one_home,
       one_server,
       a_cache,
       flush_text,
@@ -388,13 +439,14 @@ nothing_but : (one : Clause) (losses : Losses) (outs : ℕ → List ℕ) (log : 
     → (one ≢ After → (client request : ℕ) → request < number_of (puts client) log → request < number_of (takes client) (before (puts client) request log))
     → (one ≢ Answered → (client : ℕ) → list_all is_complete (take (number_of (puts client) log) []) ≡ true)
     → (one ≢ Moments → (place : ℕ) → [] ≡ moments_of place log)
-    → AccountsBut one losses one_server a_cache [] no_text outs no_history log
+    → AccountsBut one one_home losses one_server a_cache [] no_text outs no_history log
 nothing_but one losses outs log turns put after answered moments = grind (arith, nothing_read, none_there, no_command)
 
 -- a turn takes nothing
-pub without_turns : Allows Turns (λ ring opening texts outs histories log. length (requests_of (texts 0)) < number_of (takes 0) log)
+pub without_turns : Allows Turns (λ home ring opening texts outs histories log. length (requests_of (texts 0)) < number_of (takes 0) log)
 without_turns losses =
     let none : length (requests_of []) ≡ 0 = ap (λ (ts : List Parsed). length ts) nothing_read in (
+      one_home,
       one_server,
       a_cache,
       no_text,
@@ -406,8 +458,9 @@ without_turns losses =
     )
 
 -- bytes from nowhere
-pub without_put : Allows Put (λ ring opening texts outs histories log. (number_of (puts 0) log ≡ 0) × (outs 0 ≢ []))
+pub without_put : Allows Put (λ home ring opening texts outs histories log. (number_of (puts 0) log ≡ 0) × (outs 0 ≢ []))
 without_put losses = (
+  one_home,
   one_server,
   a_cache,
   no_text,
@@ -423,8 +476,9 @@ put_nothing : (v : Bool) → list_all is_complete (take (if v then suc 0 else 0)
 put_nothing true = refl
 put_nothing false = refl
 
-pub without_after : Allows After (λ ring opening texts outs histories log. number_of (takes 0) log < number_of (puts 0) log)
+pub without_after : Allows After (λ home ring opening texts outs histories log. number_of (takes 0) log < number_of (puts 0) log)
 without_after losses = (
+  one_home,
   one_server,
   a_cache,
   no_text,
@@ -440,8 +494,9 @@ without_after losses = (
 )
 
 -- a turn without an entry
-pub without_moments : Allows Moments (λ ring opening texts outs histories log. length (histories 0) ≢ number_of (serves 0) log)
+pub without_moments : Allows Moments (λ home ring opening texts outs histories log. length (histories 0) ≢ number_of (serves 0) log)
 without_moments losses = (
+  one_home,
   one_server,
   a_cache,
   no_text,
@@ -470,15 +525,15 @@ none_out losses (e ∷ es) (suc n) none = absurd (omega (arith, none))
 
 served_but : (one : Clause) (losses : Losses) (es : List Entry) (log : Log)
     → map (λ (e : TakenRequest). e.session) awaited ≡ turns_of log
-    → IsRingAfter one_server (before (takes 0) 0 log) one_server
+    → IsRingAfter 0 one_server (before (takes 0) 0 log) one_server
     → (one ≢ Legal → IsLegal awaited 0 a_cache es)
     → (one ≢ Once → (j k : ℕ) (d e : Entry) → slice_get es j ≡ Some d → slice_get es k ≡ Some e → j ≡ k)
-    → ((place : ℕ) → number_of (loses place) log ≡ 0 → Follows (first_only es place) (tags_of (commands_to place awaited)))
+    → ((place : ℕ) → number_of (drops 0 place) log ≡ 0 → Follows (first_only es place) (tags_of (commands_to place awaited)))
     → ((client : ℕ) → number_of (puts client) log ≡ 0)
     → ((place : ℕ) → number_of (restarts place) log ≡ 0)
     → ((place : ℕ) → map (λ (e : Entry). e.moment) (first_only es place) ≡ moments_of place log)
     → (one ≢ Placed → (k : ℕ) (e : Entry) → slice_get es k ≡ Some e → WasTaken (tag_in e) (before (serves 0) k log))
-    → AccountsBut one losses one_server a_cache awaited flush_text no_text (first_only es) log
+    → AccountsBut one one_home losses one_server a_cache awaited flush_text no_text (first_only es) log
 served_but one losses es log turns ring legal once followed none never moments placed =
     let e = asked_by one_server flush_asked (outcomes.Awaited ∷ []) in
     record {
@@ -487,9 +542,9 @@ served_but one losses es log turns ring legal once followed none never moments p
       numbered = λ keeps client. numbered_one (0 == client) (asked_by one_server flush_asked (outcomes.Awaited ∷ [])) refl;
       rings = λ keeps client request x at.
           let o = asked_only e client request x refl at in
-          subst (λ (c : ℕ). IsRingAfter one_server (before (takes c) request log) x.ring) o.0
-          (subst (λ (r : ℕ). IsRingAfter one_server (before (takes 0) r log) x.ring) (sym o.1)
-          (subst (λ (y : TakenRequest). IsRingAfter one_server (before (takes 0) 0 log) y.ring) (sym o.2) ring));
+          subst (λ (c : ℕ). IsRingAfter 0 one_server (before (takes c) request log) x.ring) o.0
+          (subst (λ (r : ℕ). IsRingAfter 0 one_server (before (takes 0) r log) x.ring) (sym o.1)
+          (subst (λ (y : TakenRequest). IsRingAfter 0 one_server (before (takes 0) 0 log) y.ring) (sym o.2) ring));
       sized = λ keeps. All-cons IsSized e [] refl (All-nil IsSized);
       legal = λ keeps. lives_of_first awaited a_cache es log never (legal keeps);
       once = λ keeps r s j k d x at also same.
@@ -499,7 +554,7 @@ served_but one losses es log turns ring legal once followed none never moments p
       replied = λ keeps tag place atom reply at became. absurd (no_reply one_server flush_asked outcomes.Awaited refl tag reply became);
       lost = λ keeps tag place atom at became. absurd (no_loss one_server flush_asked outcomes.Awaited refl tag became);
       ordered = λ keeps place j k d x r q at also less same became. absurd (no_reply one_server flush_asked outcomes.Awaited refl (tag_in d) r became);
-      followed = λ keeps. followed;
+      followed = λ keeps. followed_one awaited (first_only es) log followed;
       answered = λ keeps client. none_complete (entries_of client awaited) (number_of (puts client) log) (none client);
       put = λ keeps client. none_out losses (entries_of client awaited) (number_of (puts client) log) (none client);
       after = λ keeps client request early. (let nothing = none client in absurd (omega (arith, nothing, early)));
@@ -531,11 +586,12 @@ moments_one true x is = ap (λ (m : ℕ). m ∷ []) is
 moments_one false x is = refl
 
 -- a reply that no cache gives
-not_replayed : IsReplayed one_server flush_text served_log 0 a_cache (misreplied ∷ []) → ⊥
+not_replayed : IsReplayed one_home one_server flush_text served_log 0 a_cache (misreplied ∷ []) → ⊥
 not_replayed replayed = grind (arith, slice_get, same_Some, text_read, some_not_none)
 
-pub without_legal : Allows Legal (λ ring opening texts outs histories log. IsReplayed ring texts log 0 opening (in_life 0 0 log (histories 0)) → ⊥)
+pub without_legal : Allows Legal (λ home ring opening texts outs histories log. IsReplayed home ring texts log 0 opening (in_life 0 0 log (histories 0)) → ⊥)
 without_legal losses = (
+  one_home,
   one_server,
   a_cache,
   flush_text,
@@ -558,9 +614,10 @@ without_legal losses = (
 abbrev early_log : Log
 early_log = serves_one ∷ takes_one ∷ []
 
-pub without_placed : Allows Placed (λ ring opening texts outs histories log. (e : Entry) × (slice_get (histories 0) 0 ≡ Some e)
+pub without_placed : Allows Placed (λ home ring opening texts outs histories log. (e : Entry) × (slice_get (histories 0) 0 ≡ Some e)
     × (WasTaken (tag_in e) (before (serves 0) 0 log) → ⊥))
 without_placed losses = (
+  one_home,
   one_server,
   a_cache,
   flush_text,
@@ -588,9 +645,10 @@ taken_twice : (k : ℕ) (e : Entry) → slice_get (flushed ∷ flushed ∷ []) k
 taken_twice zero e at = subst (λ (x : Entry). WasTaken (tag_in x) (before (serves 0) 0 twice_log)) (same_Some flushed e at) (omega arith)
 taken_twice (suc k) e at = grind (arith, one_here)
 
-pub without_once : Allows Once (λ ring opening texts outs histories log. (d : Entry) × (e : Entry) × (slice_get (histories 0) 0 ≡ Some d)
+pub without_once : Allows Once (λ home ring opening texts outs histories log. (d : Entry) × (e : Entry) × (slice_get (histories 0) 0 ≡ Some d)
     × (slice_get (histories 0) 1 ≡ Some e) × (tag_in d ≡ tag_in e))
 without_once losses = (
+  one_home,
   one_server,
   a_cache,
   flush_text,

@@ -18,8 +18,10 @@ use Rattle.mc_account.specs.Orders.{Order}
 use Rattle.mc_history.specs.declared.entries.Entry.{Entry}
 use Rattle.mc_history.specs.Histories.{IsLegal, tag_in}
 use Rattle.mc_world.specs.Accounts.{Accounts}
+use Rattle.mc_world.specs.Homes.{Homes}
 use Rattle.mc_world.specs.Logs.{Log, number_of, restarts, serves}
 use Rattle.mc_world.specs.Steps.{GivesAccount}
+use Rattle.mc_world.specs.WorldState.{home_of}
 use Rattle.mc_world.specs.Worlds.{WorldState, history_of, put_out_of, text_of}
 use Rattle.mc_world.proofs.Log.LifeLemmas.{whole_life}
 use Rattle.mc_world.proofs.Log.LogLemmas.{moments-count}
@@ -67,35 +69,35 @@ history-owned owner look order finds own place s (e ∷ es) legal =
     )
 
 -- the history of a server that never restarted is legal
-legal_whole : (losses : Losses) (ring : RingState) (opening : CacheState) (order : Order) (texts outs : ℕ → List ℕ) (histories : ℕ → List Entry) (log : Log)
-    → Accounts losses ring opening order texts outs histories log → (place : ℕ) → number_of (restarts place) log ≡ 0 → IsLegal order place opening (histories place)
-legal_whole losses ring opening order texts outs histories log h place alive =
+legal_whole : (home : Homes) (losses : Losses) (ring : RingState) (opening : CacheState) (order : Order) (texts outs : ℕ → List ℕ) (histories : ℕ → List Entry) (log : Log)
+    → Accounts home losses ring opening order texts outs histories log → (place : ℕ) → number_of (restarts place) log ≡ 0 → IsLegal order place opening (histories place)
+legal_whole home losses ring opening order texts outs histories log h place alive =
     let size : length (histories place) ≡ number_of (serves place) log =
     sym (length-map (histories place) (λ (e : Entry). e.moment)) ∙ ap (λ (ms : List ℕ). length ms) (h.moments place) ∙ moments-count place log in
     subst (λ (es : List Entry). IsLegal order place opening es) (whole_life place log (histories place) alive size) (h.legal place 0)
 
 -- a history has a command for each turn of its server
-history-turns : (losses : Losses) (ring : RingState) (opening : CacheState) (look : LookUp) (order : Order) (texts outs : ℕ → List ℕ) (histories : ℕ → List Entry) (log : Log) → Finds look order
-    → Accounts losses ring opening order texts outs histories log → ((place : ℕ) → number_of (restarts place) log ≡ 0)
+history-turns : (home : Homes) (losses : Losses) (ring : RingState) (opening : CacheState) (look : LookUp) (order : Order) (texts outs : ℕ → List ℕ) (histories : ℕ → List Entry) (log : Log) → Finds look order
+    → Accounts home losses ring opening order texts outs histories log → ((place : ℕ) → number_of (restarts place) log ≡ 0)
     → HaveTurns (λ place. commands_of look (histories place)) (turns_of log)
-history-turns losses ring opening look order texts outs histories log finds h alive place =
-    let legal = legal_whole losses ring opening order texts outs histories log h place (alive place) in
+history-turns home losses ring opening look order texts outs histories log finds h alive place =
+    let legal = legal_whole home losses ring opening order texts outs histories log h place (alive place) in
     grind (arith, length-map, moments-count, turns-count, commands-many)
 
 -- the histories are those of one map, if all commands of the order are found
-one-map : (losses : Losses) (ring : RingState) (budget items : ℕ) (look : LookUp) (order : Order) (texts outs : ℕ → List ℕ) (histories : ℕ → List Entry) (log : Log) → IsWithinBounds budget items
-    → Accounts losses ring (opening_cache budget items 0) order texts outs histories log → Finds look order → ArePlainlyOfOneMap ring budget items look histories log
-one-map losses ring budget items look order texts outs histories log bounds h finds run =
+one-map : (home : Homes) (losses : Losses) (ring : RingState) (budget items : ℕ) (look : LookUp) (order : Order) (texts outs : ℕ → List ℕ) (histories : ℕ → List Entry) (log : Log) → IsWithinBounds budget items
+    → Accounts home losses ring (opening_cache budget items 0) order texts outs histories log → Finds look order → ArePlainlyOfOneMap ring budget items look histories log
+one-map home losses ring budget items look order texts outs histories log bounds h finds run =
     let opening : CacheState = opening_cache budget items 0 in
     let caches : Caches = opening_caches budget items 0 in
     let es : List Executed = executed look histories log in
     let legal : (place : ℕ) → IsLegal order place opening (histories place) =
-    λ place. legal_whole losses ring opening order texts outs histories log h place (run.alive place) in
+    λ place. legal_whole home losses ring opening order texts outs histories log h place (run.alive place) in
     let all : (place : ℕ) → commands_at place es ≡ commands_of look (histories place) =
-    merged-own (turns_of log) (λ place. commands_of look (histories place)) (history-turns losses ring opening look order texts outs histories log finds h run.alive) in
+    merged-own (turns_of log) (λ place. commands_of look (histories place)) (history-turns home losses ring opening look order texts outs histories log finds h run.alive) in
     let steps : StepPlainly (owner_in ring) caches es = record {
       at_owners = merged-owned (owner_in ring) (turns_of log) (λ place. commands_of look (histories place))
-          (λ place. history-owned (owner_in ring) look order finds (command_own losses ring opening order texts outs histories log h run.unjoined) place opening (histories place) (legal place));
+          (λ place. history-owned (owner_in ring) look order finds (command_own home losses ring opening order texts outs histories log h run.unjoined) place opening (histories place) (legal place));
       plain = λ place. subst (λ (cs : List Command). ArePlainSteps opening cs) (sym (all place)) (run.plain place);
     } in
     let act : ActAsMap (owner_in ring) empty_map caches es =
@@ -103,20 +105,20 @@ one-map losses ring budget items look order texts outs histories log bounds h fi
     grind (arith, replies-told)
 
 -- in the order itself all commands are found; and in what was sent too, if no server joined
-pub map_by_order : (losses : Losses) (ring : RingState) (budget items : ℕ) (order : Order) (texts outs : ℕ → List ℕ) (histories : ℕ → List Entry) (log : Log) → IsWithinBounds budget items
-    → Accounts losses ring (opening_cache budget items 0) order texts outs histories log → ArePlainlyOfOneMap ring budget items (command_at order) histories log
-map_by_order losses ring budget items order texts outs histories log bounds h = one-map losses ring budget items (command_at order) order texts outs histories log bounds h (λ tag command at. at)
+pub map_by_order : (home : Homes) (losses : Losses) (ring : RingState) (budget items : ℕ) (order : Order) (texts outs : ℕ → List ℕ) (histories : ℕ → List Entry) (log : Log) → IsWithinBounds budget items
+    → Accounts home losses ring (opening_cache budget items 0) order texts outs histories log → ArePlainlyOfOneMap ring budget items (command_at order) histories log
+map_by_order home losses ring budget items order texts outs histories log bounds h = one-map home losses ring budget items (command_at order) order texts outs histories log bounds h (λ tag command at. at)
 
-pub map_by_texts : (losses : Losses) (ring : RingState) (budget items : ℕ) (order : Order) (texts outs : ℕ → List ℕ) (histories : ℕ → List Entry) (log : Log) → IsWithinBounds budget items
-    → Accounts losses ring (opening_cache budget items 0) order texts outs histories log → ArePlainlyOfOneMap ring budget items (sent_at ring texts) histories log
-map_by_texts losses ring budget items order texts outs histories log bounds h run =
-    one-map losses ring budget items (sent_at ring texts) order texts outs histories log bounds h
-    (command_is_sent losses ring (opening_cache budget items 0) order texts outs histories log h run.unjoined) run
+pub map_by_texts : (home : Homes) (losses : Losses) (ring : RingState) (budget items : ℕ) (order : Order) (texts outs : ℕ → List ℕ) (histories : ℕ → List Entry) (log : Log) → IsWithinBounds budget items
+    → Accounts home losses ring (opening_cache budget items 0) order texts outs histories log → ArePlainlyOfOneMap ring budget items (sent_at ring texts) histories log
+map_by_texts home losses ring budget items order texts outs histories log bounds h run =
+    one-map home losses ring budget items (sent_at ring texts) order texts outs histories log bounds h
+    (command_is_sent home losses ring (opening_cache budget items 0) order texts outs histories log h run.unjoined) run
 
 -- this holds of a world that gives account
 pub one_map_of : (w : WorldState) → IsWithinBounds w.budget w.items → GivesAccount w → ActsAsOneMap w
 one_map_of w bounds account = record {
   account = account;
-  by_texts = map_by_texts w.losses w.opening w.budget w.items account.0 (text_of w.course) (put_out_of w.course) (history_of w.course) w.course.log bounds account.1;
-  by_order = λ order h. map_by_order w.losses w.opening w.budget w.items order (text_of w.course) (put_out_of w.course) (history_of w.course) w.course.log bounds h;
+  by_texts = map_by_texts (home_of w.course.pool) w.losses w.opening w.budget w.items account.0 (text_of w.course) (put_out_of w.course) (history_of w.course) w.course.log bounds account.1;
+  by_order = λ order h. map_by_order (home_of w.course.pool) w.losses w.opening w.budget w.items order (text_of w.course) (put_out_of w.course) (history_of w.course) w.course.log bounds h;
 }

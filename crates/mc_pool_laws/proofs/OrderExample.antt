@@ -22,15 +22,17 @@ use Rattle.mc_route.specs.declared.routes.Routed.{Routed}
 use Rattle.mc_link.specs.declared.turns.Tag.{Tag}
 use Rattle.mc_proxy.specs.Sending.{tag_of}
 use Rattle.mc_account.specs.Lookups.{IsBefore, asked_at, command_at, outcome_at}
-use Rattle.mc_account.specs.Orders.{AreInOrder, Order, TakenRequest, is_complete}
+use Rattle.mc_account.specs.Orders.{AreInOrder, Order, TakenRequest, commands_to, is_complete}
 use Rattle.mc_history.specs.declared.entries.Entry.{Entry}
 use Rattle.mc_history.specs.Histories.{HasReply, IsLegal, tag_in}
+use Rattle.mc_history.specs.Named.{tags_of}
 use Rattle.mc_world.specs.Accounts.{NotAnswered, WasTaken}
-use Rattle.mc_world.specs.Logs.{IsRingAfter, Log, before, in_life, loses, number_of, puts, serves, takes}
+use Rattle.mc_world.specs.Homes.{of_proxy, tags_through}
+use Rattle.mc_world.specs.Logs.{IsRingAfter, Log, before, drops, in_life, loses, number_of, puts, serves, takes}
 use Rattle.mc_pool_laws.specs.Outcomes.{LinkHeld, WasAnswered}
 use Rattle.mc_pool_laws.specs.Without.{AccountsBut, Allows, Ordered}
 use Rattle.mc_pool_laws.proofs.SentLemmas.{in_request}
-use Rattle.mc_pool_laws.proofs.NeedLemmas.{a_cache, asked_by, first_only, first_there, flush, flush_asked, flushed, follows_lost, is_lost, lives_of_first, loses_one, none_there, one_here, one_server, outcome_in_request, outs_of, own_by, puts_one, returns_one, serves_one, takes_one}
+use Rattle.mc_pool_laws.proofs.NeedLemmas.{a_cache, asked_by, first_only, first_there, flush, flush_asked, flushed, followed_one, follows_lost, is_lost, lives_of_first, loses_one, none_there, one_here, one_home, one_server, outcome_in_request, outs_of, own_by, puts_one, returns_one, serves_one, takes_one}
 
 abbrev pub two_text : ℕ → List ℕ
 two_text client = codes "flush_all\r\nflush_all\r\n"
@@ -105,18 +107,18 @@ after_two client request early =
     ])
 
 -- the link was lost before either request was taken, and held then
-held_two : (tag : Tag) → LinkHeld 0 tag two_log
+held_two : (tag : Tag) → LinkHeld one_home 0 tag two_log
 held_two tag lost =
     let first : lost.0 ≡ 0 = omega (arith, lost.1) in
-    let taken : tag.request < number_of (takes tag.session) (before (loses 0) 0 two_log) =
-    subst (λ (n : ℕ). tag.request < number_of (takes tag.session) (before (loses 0) n two_log)) first lost.2 in
+    let taken : tag.request < number_of (takes tag.session) (before (loses 0 0) 0 two_log) =
+    subst (λ (n : ℕ). tag.request < number_of (takes tag.session) (before (loses 0 0) n two_log)) first lost.2 in
     omega (arith, taken)
 
 moments_by : (v : Bool) → map (λ (e : Entry). e.moment) (if v then turned else []) ≡ (if v then 5 ∷ [] else []) ++ ((if v then 5 ∷ [] else []) ++ [])
 moments_by true = refl
 moments_by false = refl
 
-rings_by : (client request : ℕ) (x : TakenRequest) → asked_at two_asked client request ≡ Some x → IsRingAfter one_server (before (takes client) request two_log) x.ring
+rings_by : (client request : ℕ) (x : TakenRequest) → asked_at two_asked client request ≡ Some x → IsRingAfter 0 one_server (before (takes client) request two_log) x.ring
 rings_by client request x at = grind (arith, one_server, asked_two)
 
 -- each command of it is a flush at the first server, and its reply says that it was flushed
@@ -187,14 +189,19 @@ turned_legal = (
 turned_lives : (place life : ℕ) → IsLegal two_asked place a_cache (in_life place life two_log (first_only turned place))
 turned_lives = lives_of_first two_asked a_cache turned two_log (λ place. refl) turned_legal
 
-two_but : (losses : Losses) → AccountsBut Ordered losses one_server a_cache two_asked two_text (outs_of losses two_asked two_log) (first_only turned) two_log
-two_but losses =
-    grind (arith, true≢false, a_cache, first_there, follows_lost, is_lost, own_by, text_by, complete_by, numbered_by, after_two, moments_by, rings_by, two_outcome, replied_by, once_by, placed_by, turned_lives)
+two_follows : (proxy place : ℕ) → number_of (drops proxy place) two_log ≡ 0
+    → (untaken : List Tag) × (tags_through one_home proxy (first_only turned place) ++ untaken ≡ tags_of (commands_to place (of_proxy one_home proxy two_asked)))
+two_follows = followed_one two_asked (first_only turned) two_log (λ place none. follows_lost (0 == place) turned (tags_of (commands_to place two_asked)) none)
 
-pub without_ordered : Allows Ordered (λ ring opening texts outs histories log. (d : Entry) × (e : Entry) × (slice_get (histories 0) 0 ≡ Some d)
+two_but : (losses : Losses) → AccountsBut Ordered one_home losses one_server a_cache two_asked two_text (outs_of losses two_asked two_log) (first_only turned) two_log
+two_but losses =
+    grind (arith, true≢false, a_cache, first_there, is_lost, own_by, text_by, complete_by, numbered_by, after_two, moments_by, rings_by, two_outcome, replied_by, once_by, placed_by, turned_lives, two_follows)
+
+pub without_ordered : Allows Ordered (λ home ring opening texts outs histories log. (d : Entry) × (e : Entry) × (slice_get (histories 0) 0 ≡ Some d)
     × (slice_get (histories 0) 1 ≡ Some e) × (d.client ≡ e.client) × WasAnswered (tag_in d) log × WasAnswered (tag_in e) log
-    × LinkHeld 0 (tag_in d) log × LinkHeld 0 (tag_in e) log × (IsBefore (tag_in d) (tag_in e) → ⊥))
+    × LinkHeld home 0 (tag_in d) log × LinkHeld home 0 (tag_in e) log × (IsBefore (tag_in d) (tag_in e) → ⊥))
 without_ordered losses = (
+  one_home,
   one_server,
   a_cache,
   two_text,

@@ -20,6 +20,7 @@ use Rattle.mc_account.specs.Lookups.{asked_at, command_at, command_in, outcome_a
 use Rattle.mc_account.specs.Orders.{IsSized, Order, TakenRequest, entries_of, is_complete}
 use Rattle.mc_history.specs.declared.entries.Entry.{Entry}
 use Rattle.mc_world.specs.Accounts.{Accounts, answers_by}
+use Rattle.mc_world.specs.Homes.{Homes}
 use Rattle.mc_world.specs.Logs.{Log, number_of, puts}
 use Rattle.mc_world.proofs.Log.EntryLemmas.{got_inside, got_some}
 use Rattle.mc_pool_laws.specs.Outcomes.{AreAnswersFrom, HaveOutcomesBy, IsAnswerTo, HasOutcomeBy, WasAnswered}
@@ -73,10 +74,10 @@ sized_at client (x ∷ xs) k e sized at =
     (λ j here. sized_at client xs j e (All-tail IsSized x xs sized) here) at
 
 -- the outcome of a command of an answered request is known
-pub known_at : (losses : Losses) (ring : RingState) (opening : CacheState) (order : Order) (texts outs : ℕ → List ℕ) (histories : ℕ → List Entry) (log : Log)
-    → Accounts losses ring opening order texts outs histories log → (tag : Tag) (command : Routed) → command_at order tag ≡ Some command → WasAnswered tag log
+pub known_at : (home : Homes) (losses : Losses) (ring : RingState) (opening : CacheState) (order : Order) (texts outs : ℕ → List ℕ) (histories : ℕ → List Entry) (log : Log)
+    → Accounts home losses ring opening order texts outs histories log → (tag : Tag) (command : Routed) → command_at order tag ≡ Some command → WasAnswered tag log
     → (outcome : Outcome) × (outcome_at order tag ≡ Some outcome) × (is_noted outcome ≡ true)
-known_at losses ring opening order texts outs histories log h tag command at answered =
+known_at home losses ring opening order texts outs histories log h tag command at answered =
     let found = in_request (asked_at order tag.session tag.request) tag.atom command at in
     let e = found.0 in
     let sized : length e.outcomes ≡ length (route_of_taken e.ring e.what) = sized_at tag.session order tag.request e h.sized found.1 in
@@ -88,42 +89,42 @@ known_at losses ring opening order texts outs histories log h tag command at ans
     (outcome.0, ap (λ (o : Option TakenRequest). outcome_in o tag.atom) found.1 ∙ outcome.1, passes_at is_noted e.outcomes tag.atom outcome.0 complete outcome.1)
 
 -- the histories and the log show it
-pub told_by : (losses : Losses) (ring : RingState) (opening : CacheState) (order : Order) (texts outs : ℕ → List ℕ) (histories : ℕ → List Entry) (log : Log)
-    → Accounts losses ring opening order texts outs histories log → (tag : Tag) (command : Routed) (outcome : Outcome) → command_at order tag ≡ Some command
-    → outcome_at order tag ≡ Some outcome → is_noted outcome ≡ true → HasOutcomeBy histories log tag command outcome
-told_by losses ring opening order texts outs histories log h tag command (Reply reply) at became told = h.replied tag command.server command.atom reply at became
-told_by losses ring opening order texts outs histories log h tag command Lost at became told = h.lost tag command.server command.atom at became
-told_by losses ring opening order texts outs histories log h tag command Awaited at became told = absurd (false≢true told)
+pub told_by : (home : Homes) (losses : Losses) (ring : RingState) (opening : CacheState) (order : Order) (texts outs : ℕ → List ℕ) (histories : ℕ → List Entry) (log : Log)
+    → Accounts home losses ring opening order texts outs histories log → (tag : Tag) (command : Routed) (outcome : Outcome) → command_at order tag ≡ Some command
+    → outcome_at order tag ≡ Some outcome → is_noted outcome ≡ true → HasOutcomeBy home histories log tag command outcome
+told_by home losses ring opening order texts outs histories log h tag command (Reply reply) at became told = h.replied tag command.server command.atom reply at became
+told_by home losses ring opening order texts outs histories log h tag command Lost at became told = h.lost tag command.server command.atom at became
+told_by home losses ring opening order texts outs histories log h tag command Awaited at became told = absurd (false≢true told)
 
 -- likewise for all commands of a request
-are_told : (histories : ℕ → List Entry) (log : Log) (client request at : ℕ) (commands : List Routed) (outcomes : List Outcome) → length outcomes ≡ length commands
+are_told : (home : Homes) (histories : ℕ → List Entry) (log : Log) (client request at : ℕ) (commands : List Routed) (outcomes : List Outcome) → length outcomes ≡ length commands
     → ((k n : ℕ) (command : Routed) (outcome : Outcome) → n ≡ at + k → slice_get commands k ≡ Some command → slice_get outcomes k ≡ Some outcome
-    → HasOutcomeBy histories log (tag_of client request n) command outcome)
-    → HaveOutcomesBy histories log client request at commands outcomes
-are_told histories log client request at [] [] size each = tt
-are_told histories log client request at [] (o ∷ os) size each = absurd (omega (arith, size))
-are_told histories log client request at (c ∷ cs) [] size each = absurd (omega (arith, size))
-are_told histories log client request at (c ∷ cs) (o ∷ os) size each = (
+    → HasOutcomeBy home histories log (tag_of client request n) command outcome)
+    → HaveOutcomesBy home histories log client request at commands outcomes
+are_told home histories log client request at [] [] size each = tt
+are_told home histories log client request at [] (o ∷ os) size each = absurd (omega (arith, size))
+are_told home histories log client request at (c ∷ cs) [] size each = absurd (omega (arith, size))
+are_told home histories log client request at (c ∷ cs) (o ∷ os) size each = (
   each zero at c o (omega arith) refl refl,
-  are_told histories log client request (suc at) cs os (omega (arith, size))
+  are_told home histories log client request (suc at) cs os (omega (arith, size))
       (λ k n command outcome is there became. each (suc k) n command outcome (omega (arith, is)) there became),
 )
 
 -- the answer to a request whose outcomes are all known
-pub answer_to : (losses : Losses) (ring : RingState) (opening : CacheState) (order : Order) (texts outs : ℕ → List ℕ) (histories : ℕ → List Entry) (log : Log)
-    → Accounts losses ring opening order texts outs histories log → (client request : ℕ) (e : TakenRequest) → asked_at order client request ≡ Some e → is_complete e ≡ true
-    → IsAnswerTo losses ring texts histories log client request (answer_by losses e.what e.outcomes)
-answer_to losses ring opening order texts outs histories log h client request e at complete =
+pub answer_to : (home : Homes) (losses : Losses) (ring : RingState) (opening : CacheState) (order : Order) (texts outs : ℕ → List ℕ) (histories : ℕ → List Entry) (log : Log)
+    → Accounts home losses ring opening order texts outs histories log → (client request : ℕ) (e : TakenRequest) → asked_at order client request ≡ Some e → is_complete e ≡ true
+    → IsAnswerTo home losses ring texts histories log client request (answer_by losses e.what e.outcomes)
+answer_to home losses ring opening order texts outs histories log h client request e at complete =
     record {
       what = e.what;
       ring = e.ring;
-      taken = entry_taken losses ring opening order texts outs histories log h client request e at;
+      taken = entry_taken home losses ring opening order texts outs histories log h client request e at;
       outcomes = e.outcomes;
       told =
-          are_told histories log client request 0 (route_of_taken e.ring e.what) e.outcomes (sized_at client order request e h.sized at)
+          are_told home histories log client request 0 (route_of_taken e.ring e.what) e.outcomes (sized_at client order request e h.sized at)
           (λ k n command outcome is there became.
           let same : n ≡ k = omega (arith, is) in
-          told_by losses ring opening order texts outs histories log h (tag_of client request n) command outcome
+          told_by home losses ring opening order texts outs histories log h (tag_of client request n) command outcome
           (ap (λ (o : Option TakenRequest). command_in o n) at ∙ ap (λ (m : ℕ). slice_get (route_of_taken e.ring e.what) m) same ∙ there)
           (ap (λ (o : Option TakenRequest). outcome_in o n) at ∙ ap (λ (m : ℕ). slice_get e.outcomes m) same ∙ became)
           (passes_at is_noted e.outcomes k outcome complete became));
@@ -131,13 +132,13 @@ answer_to losses ring opening order texts outs histories log h client request e 
     }
 
 -- answers, in sequence
-answers_from : (losses : Losses) (ring : RingState) (texts : ℕ → List ℕ) (histories : ℕ → List Entry) (log : Log) (client request : ℕ) (es : Order)
-    → ((k n : ℕ) (e : TakenRequest) → n ≡ request + k → slice_get es k ≡ Some e → IsAnswerTo losses ring texts histories log client n (answer_by losses e.what e.outcomes))
-    → AreAnswersFrom losses ring texts histories log client request (map (λ (e : TakenRequest). answer_by losses e.what e.outcomes) es)
-answers_from losses ring texts histories log client request [] each = tt
-answers_from losses ring texts histories log client request (e ∷ es) each = (
+answers_from : (home : Homes) (losses : Losses) (ring : RingState) (texts : ℕ → List ℕ) (histories : ℕ → List Entry) (log : Log) (client request : ℕ) (es : Order)
+    → ((k n : ℕ) (e : TakenRequest) → n ≡ request + k → slice_get es k ≡ Some e → IsAnswerTo home losses ring texts histories log client n (answer_by losses e.what e.outcomes))
+    → AreAnswersFrom home losses ring texts histories log client request (map (λ (e : TakenRequest). answer_by losses e.what e.outcomes) es)
+answers_from home losses ring texts histories log client request [] each = tt
+answers_from home losses ring texts histories log client request (e ∷ es) each = (
   each zero request e (omega arith) refl,
-  answers_from losses ring texts histories log client (suc request) es (λ k n d is there. each (suc k) n d (omega (arith, is)) there),
+  answers_from home losses ring texts histories log client (suc request) es (λ k n d is there. each (suc k) n d (omega (arith, is)) there),
 )
 
 answers_join : (losses : Losses) (es : Order) → answers_by losses es ≡ concat (map (λ (e : TakenRequest). answer_by losses e.what e.outcomes) es)
@@ -145,20 +146,20 @@ answers_join losses [] = refl
 answers_join losses (e ∷ es) = ap (λ (bytes : List ℕ). answer_by losses e.what e.outcomes ++ bytes) (answers_join losses es)
 
 -- the bytes that were emitted to a client
-pub put_answers : (losses : Losses) (ring : RingState) (opening : CacheState) (order : Order) (texts outs : ℕ → List ℕ) (histories : ℕ → List Entry) (log : Log)
-    → Accounts losses ring opening order texts outs histories log → (client : ℕ)
+pub put_answers : (home : Homes) (losses : Losses) (ring : RingState) (opening : CacheState) (order : Order) (texts outs : ℕ → List ℕ) (histories : ℕ → List Entry) (log : Log)
+    → Accounts home losses ring opening order texts outs histories log → (client : ℕ)
     → (answers : List (List ℕ)) × (length answers ≡ number_of (puts client) log) × (outs client ≡ concat answers)
-    × AreAnswersFrom losses ring texts histories log client 0 answers
-put_answers losses ring opening order texts outs histories log h client =
+    × AreAnswersFrom home losses ring texts histories log client 0 answers
+put_answers home losses ring opening order texts outs histories log h client =
     let n = number_of (puts client) log in
     let es = take n (entries_of client order) in (
       map (λ (e : TakenRequest). answer_by losses e.what e.outcomes) es,
-      length-map es (λ (e : TakenRequest). answer_by losses e.what e.outcomes) ∙ length-take-le n (entries_of client order) (puts_few losses ring opening order texts outs histories log h client),
+      length-map es (λ (e : TakenRequest). answer_by losses e.what e.outcomes) ∙ length-take-le n (entries_of client order) (puts_few home losses ring opening order texts outs histories log h client),
       h.put client ∙ answers_join losses es,
-      answers_from losses ring texts histories log client 0 es
+      answers_from home losses ring texts histories log client 0 es
           (λ k m e is there.
           let same : k ≡ m = omega (arith, is) in
-          answer_to losses ring opening order texts outs histories log h client m e
+          answer_to home losses ring opening order texts outs histories log h client m e
           (ap (λ (j : ℕ). slice_get (entries_of client order) j) (sym same) ∙ got_front n (entries_of client order) k e there)
           (passes_at is_complete es k e (h.answered client) there)),
     )

@@ -70,6 +70,6 @@ earlier is kind apart (suc number) k (x ∷ xs) inside none =
     ]) refl inside none
 
 -- the emission of an answer is no loss
-pub puts_apart : (client place : ℕ) (x : Logged) → puts client x ≡ true → loses place x ≡ false
-puts_apart client place (Happened (Emit of)) own = refl
-puts_apart client place other own = absurd (false≢true own)
+pub puts_apart : (client proxy place : ℕ) (x : Logged) → puts client x ≡ true → loses proxy place x ≡ false
+puts_apart client proxy place (Happened (Emit of)) own = refl
+puts_apart client proxy place other own = absurd (false≢true own)

@@ -36,7 +36,7 @@ use Rattle.mc_history.specs.declared.entries.Entry.{Entry}
 use Rattle.mc_history.specs.Histories.{HasReply, IsLegal, tag_in}
 use Rattle.mc_pool_laws.specs.Sent.{IsReplayed}
 use Rattle.mc_pool_laws.proofs.MissExample.{commands_of as one_command, entry_as, get_asked, get_key, in_two, key, nothing_read, outcome_of, owned, set_asked, set_key, stored}
-use Rattle.mc_pool_laws.proofs.NeedLemmas.{a_cache, first_only, first_there, follows_lost, is_lost, loses_one, none_there, one_server, outcome_in_request, outs_of, own_by, puts_one, returns_one, serves_one, takes_one}
+use Rattle.mc_pool_laws.proofs.NeedLemmas.{a_cache, first_only, first_there, followed_one, follows_lost, is_lost, loses_one, none_there, one_home, one_server, outcome_in_request, outs_of, own_by, puts_one, returns_one, serves_one, takes_one}
 use Rattle.mc_pool_laws.proofs.SentLemmas.{in_request, sent_command}
 
 -- what the client sends, and how it is read
@@ -70,7 +70,7 @@ restart_history = stored ∷ missed ∷ []
 
 abbrev pub restart_log : Log
 restart_log =
-    takes_one ∷ serves_one ∷ puts_one ∷ loses_one ∷ Restarted 0 ∷ returns_one ∷ takes_one ∷ Happened (ServerTurn 0 2 5) ∷ puts_one ∷ []
+    takes_one ∷ serves_one ∷ puts_one ∷ loses_one ∷ Restarted 0 ∷ returns_one ∷ takes_one ∷ Happened (ServerTurn 0 0 2 5) ∷ puts_one ∷ []
 
 -- the requests of a client in it
 abbrev mine : Bool → Order
@@ -124,7 +124,7 @@ after_two client request early =
 
 -- each is routed by the ring, which stays
 abbrev IsRouted : ℕ → ℕ → TakenRequest → Type 0
-IsRouted client request x = IsRingAfter one_server (before (takes client) request restart_log) x.ring
+IsRouted client request x = IsRingAfter 0 one_server (before (takes client) request restart_log) x.ring
 
 rings_by : (client request : ℕ) (x : TakenRequest) → asked_at restart_order client request ≡ Some x → IsRouted client request x
 rings_by client request x at =
@@ -172,7 +172,7 @@ replied_by tag place atom reply at became =
     ]
 
 lost_by : (tag : Tag) (place : ℕ) (atom : Atom (List ℕ)) → command_at restart_order tag ≡ Some (to_place place atom)
-    → outcome_at restart_order tag ≡ Some outcomes.Lost → WasNeverSentOrLost place tag (first_only restart_history place) restart_log
+    → outcome_at restart_order tag ≡ Some outcomes.Lost → WasNeverSentOrLost one_home place tag (first_only restart_history place) restart_log
 lost_by tag place atom at became =
     let k = known tag place atom outcomes.Lost at became in
     elim k.which [
@@ -248,7 +248,7 @@ moments_by : (v : Bool) → map (λ (e : Entry). e.moment) (if v then restart_hi
 moments_by true = refl
 moments_by false = refl
 
-pub restart_accounts : (losses : Losses) → Accounts losses one_server a_cache restart_order restart_text (outs_of losses restart_order restart_log)
+pub restart_accounts : (losses : Losses) → Accounts one_home losses one_server a_cache restart_order restart_text (outs_of losses restart_order restart_log)
     (first_only restart_history) restart_log
 restart_accounts losses = record {
   asked = λ client. asked_text (0 == client);
@@ -266,7 +266,7 @@ restart_accounts losses = record {
   ordered = λ place j k d e r q at also less same first_reply second_reply.
       before_by j k d e (in_two stored missed j d (first_there restart_history place j d at).1)
       (in_two stored missed k e (first_there restart_history place k e also).1) less;
-  followed = λ place none. follows_lost (0 == place) restart_history _ none;
+  followed = followed_one restart_order (first_only restart_history) restart_log (λ place none. follows_lost (0 == place) restart_history _ none);
   answered = λ client. complete_by (0 == client);
   put = λ client. refl;
   after = after_two;
@@ -294,23 +294,23 @@ found : missed.reply ≡ spelling_of get_key (step_of (step_of a_cache set_key 5
 unfolding digits
 found told = let size : 5 ≡ 21 = ap (λ (bytes : List ℕ). length bytes) told in omega (arith, size)
 
-not_replayed : (losses : Losses) → IsReplayed one_server restart_text restart_log 0 a_cache restart_history → ⊥
+not_replayed : (losses : Losses) → IsReplayed one_home one_server restart_text restart_log 0 a_cache restart_history → ⊥
 not_replayed losses replayed =
     let outs : ℕ → List ℕ = outs_of losses restart_order restart_log in
     let first_is : set_key ≡ replayed.0 =
-    sent_first replayed.0 (sent_command losses one_server a_cache restart_order restart_text outs (first_only restart_history) restart_log (restart_accounts losses)
+    sent_first replayed.0 (sent_command one_home losses one_server a_cache restart_order restart_text outs (first_only restart_history) restart_log (restart_accounts losses)
     (tag_in stored) (to_place 0 replayed.0) replayed.1) in
     let second_is : get_key ≡ replayed.3.0 =
-    sent_second replayed.3.0 (sent_command losses one_server a_cache restart_order restart_text outs (first_only restart_history) restart_log (restart_accounts losses)
+    sent_second replayed.3.0 (sent_command one_home losses one_server a_cache restart_order restart_text outs (first_only restart_history) restart_log (restart_accounts losses)
     (tag_in missed) (to_place 0 replayed.3.0) replayed.3.1) in
     found
     (subst (λ (a : Atom (List ℕ)). missed.reply ≡ spelling_of get_key (step_of (step_of a_cache a 5 false).0 get_key 5 false).1) (sym first_is)
     (subst (λ (a : Atom (List ℕ)). missed.reply ≡ spelling_of a (step_of (step_of a_cache replayed.0 5 false).0 a 5 false).1) (sym second_is) replayed.3.2.reply))
 
 pub stored_and_missed : (losses : Losses) → (ring : RingState) × (outs : ℕ → List ℕ) × (histories : ℕ → List Entry) × (log : Log)
-    × Account losses ring (opening_cache 1000 10 0) (λ client. if 0 == client then codes "set k 0 0 1\r\nv\r\nget k\r\n" else []) outs histories log
+    × Account one_home losses ring (opening_cache 1000 10 0) (λ client. if 0 == client then codes "set k 0 0 1\r\nv\r\nget k\r\n" else []) outs histories log
     × (outs 0 ≡ codes "STORED\r\nEND\r\n")
-    × (IsReplayed ring (λ client. if 0 == client then codes "set k 0 0 1\r\nv\r\nget k\r\n" else []) log 0 (opening_cache 1000 10 0) (histories 0) → ⊥)
+    × (IsReplayed one_home ring (λ client. if 0 == client then codes "set k 0 0 1\r\nv\r\nget k\r\n" else []) log 0 (opening_cache 1000 10 0) (histories 0) → ⊥)
 stored_and_missed losses = (
   one_server,
   outs_of losses restart_order restart_log,

@@ -22,7 +22,7 @@ use Rattle.mc_account.specs.Lookups.{asked_at, command_at, outcome_at}
 use Rattle.mc_account.specs.Orders.{AreInOrder, IsSized, Order, Tagged, TakenRequest, commands_from, entries_of}
 use Rattle.mc_world.specs.declared.events.Event.TheVariants.{ProxyTurn}
 use Rattle.mc_world.specs.Accounts.{WasTaken}
-use Rattle.mc_world.specs.Logs.{IsRingAfter, Log, before, loses, number_of, serves, takes}
+use Rattle.mc_world.specs.Logs.{IsRingAfter, Log, before, drops, number_of, serves, takes}
 use Rattle.mc_world.specs.declared.logs.Logged.{Logged}
 use Rattle.mc_world.specs.declared.logs.Logged.TheVariants.{Happened}
 use Rattle.mc_world.proofs.Log.LogLemmas.{IsEvent}
@@ -31,7 +31,7 @@ use Rattle.mc_history.specs.Histories.{IsLegal, tag_in}
 use Rattle.mc_history.specs.Named.{tags_of}
 use Rattle.mc_pool_laws.specs.Followed.{AreSentBy, FollowsProxy}
 use Rattle.mc_pool_laws.specs.Without.{AccountsBut, Allows, Clause, Followed, Numbered, Turns}
-use Rattle.mc_pool_laws.proofs.NeedLemmas.{Follows, a_cache, first_only, first_there, flush, flush_asked, is_lost, is_reply, lives_of_first, none_complete, none_out, one_here, one_server, outcome_in_request, serves_one, takes_one}
+use Rattle.mc_pool_laws.proofs.NeedLemmas.{Follows, a_cache, first_only, first_there, flush, flush_asked, followed_one, is_lost, is_reply, lives_of_first, none_complete, none_out, one_here, one_home, one_server, outcome_in_request, serves_one, takes_one}
 use Rattle.mc_pool_laws.proofs.OrderExample.{two_here, two_read, two_text}
 
 -- a flush of a client, which awaits its reply, and its entry
@@ -87,10 +87,10 @@ abbrev AreEvents : Log → Type 0
 AreEvents [] = Unit {0}
 AreEvents (e ∷ es) = IsEvent e × AreEvents es
 
-ring_there : (is : Logged → Bool) (number : ℕ) (log : Log) (ring : RingState) → AreEvents log → IsRingAfter ring (before is number log) ring
+ring_there : (is : Logged → Bool) (number : ℕ) (log : Log) (ring : RingState) → AreEvents log → IsRingAfter 0 ring (before is number log) ring
 ring_there is number [] ring h = refl
 ring_there is zero (Happened event ∷ es) ring h =
-    (elim (is (Happened event)) as (λ v. IsRingAfter ring (if v then [] else Happened event ∷ before is zero es) ring) [
+    (elim (is (Happened event)) as (λ v. IsRingAfter 0 ring (if v then [] else Happened event ∷ before is zero es) ring) [
       | true ↦ refl
       | false ↦ ring_there is zero es ring h.1
     ])
@@ -123,7 +123,7 @@ stray_but : (one : Clause) (losses : Losses) (a m b n p q r s second : ℕ)
     → IsLegal (flush_by a m ∷ flush_by b n ∷ []) 0 a_cache (entry_by p q ∷ entry_by r s ∷ [])
     → (tag_of p q 0 ≡ tag_of r s 0 → ⊥)
     → WasTaken (tag_of p q 0) (before (serves 0) 0 (two_turns second)) → WasTaken (tag_of r s 0) (before (serves 0) 1 (two_turns second))
-    → AccountsBut one losses one_server a_cache (flush_by a m ∷ flush_by b n ∷ []) two_text (λ _. []) (first_only (entry_by p q ∷ entry_by r s ∷ [])) (two_turns second)
+    → AccountsBut one one_home losses one_server a_cache (flush_by a m ∷ flush_by b n ∷ []) two_text (λ _. []) (first_only (entry_by p q ∷ entry_by r s ∷ [])) (two_turns second)
 stray_but one losses a m b n p q r s second turns numbered followed legal apart first_taken second_taken =
     let x = flush_by a m in
     let y = flush_by b n in
@@ -134,7 +134,7 @@ stray_but one losses a m b n p q r s second turns numbered followed legal apart 
       turns = turns;
       numbered = numbered;
       rings = λ keeps client request e at.
-          subst (λ (ring : RingState). IsRingAfter one_server (before (takes client) request (two_turns second)) ring)
+          subst (λ (ring : RingState). IsRingAfter 0 one_server (before (takes client) request (two_turns second)) ring)
           (sym (flush_each (flush_by a m) (flush_by b n) client request e (refl, refl, refl) (refl, refl, refl) at).1)
           (ring_there (takes client) request (two_turns second) one_server (tt, (tt, (tt, (tt, tt)))));
       sized = λ keeps. All-cons IsSized (flush_by a m) (flush_by b n ∷ []) refl (All-cons IsSized (flush_by b n) [] refl (All-nil IsSized));
@@ -146,7 +146,10 @@ stray_but one losses a m b n p q r s second turns numbered followed legal apart 
       replied = λ keeps tag place atom reply at became. absurd (true≢false (ap is_reply (waits tag (outcomes.Reply reply) became)));
       lost = λ keeps tag place atom at became. absurd (true≢false (ap is_lost (waits tag outcomes.Lost became)));
       ordered = λ keeps place j k d e u w at also less same became. absurd (true≢false (ap is_reply (waits (tag_in d) (outcomes.Reply u) became)));
-      followed = λ keeps place none. let tags = followed keeps in follows_each (0 == place) (flush, tag_of a m 0) (flush, tag_of b n 0) (entry_by p q) (entry_by r s) tags.0 tags.1;
+      followed = λ keeps.
+          let tags = followed keeps in
+          followed_one (flush_by a m ∷ flush_by b n ∷ []) (first_only (entry_by p q ∷ entry_by r s ∷ [])) (two_turns second)
+          (λ place none. follows_each (0 == place) (flush, tag_of a m 0) (flush, tag_of b n 0) (entry_by p q) (entry_by r s) tags.0 tags.1);
       answered = λ keeps client. none_complete (entries_of client (flush_by a m ∷ flush_by b n ∷ [])) 0 refl;
       put = λ keeps client. none_out losses (entries_of client (flush_by a m ∷ flush_by b n ∷ [])) 0 refl;
       after = λ keeps client request early. absurd (omega (arith, early));
@@ -159,25 +162,30 @@ stray_but one losses a m b n p q r s second turns numbered followed legal apart 
     }
 
 -- the first command that was sent is the first command of client 0
-first_sent : (es : Log) (sent : List Tagged) → AreSentBy one_server two_text 0 [] (takes_one ∷ es) sent → slice_get (tags_of sent) 0 ≡ Some (tag_of 0 0 0)
+first_sent : (es : Log) (sent : List Tagged) → AreSentBy one_home 0 one_server two_text 0 [] (takes_one ∷ es) sent → slice_get (tags_of sent) 0 ≡ Some (tag_of 0 0 0)
 first_sent es sent h =
-    let takes = h.2 in
-    let asked : takes.what ≡ flush_asked = same_Some takes.what flush_asked (sym takes.sent ∙ ap (λ (ts : List Parsed). slice_get ts 0) two_read) in
-    let first : h.0 ≡ (flush, tag_of 0 0 0) ∷ [] = takes.routed ∙ ap₂ (λ (ring : RingState) (what : Parsed). commands_from 0 0 0 0 (route_of_taken ring what)) takes.then asked in
+    let first : h.0 ≡ (flush, tag_of 0 0 0) ∷ [] = elim h.2 [
+      | inl own ↦
+          let takes = own.1 in
+          let asked : takes.what ≡ flush_asked = same_Some takes.what flush_asked (sym takes.sent ∙ ap (λ (ts : List Parsed). slice_get ts 0) two_read) in
+          takes.routed ∙ ap₂ (λ (ring : RingState) (what : Parsed). commands_from 0 0 0 0 (route_of_taken ring what)) takes.then asked
+      | inr other ↦ absurd (other.0 refl)
+    ] in
     ap (λ (cs : List Tagged). slice_get (tags_of cs) 0) (h.4 ∙ ap (λ (cs : List Tagged). cs ++ h.1) first)
 
-strays : (es : Log) (d : Entry) (more : List Entry) → (tag_in d ≡ tag_of 0 0 0 → ⊥) → FollowsProxy one_server two_text (takes_one ∷ es) 0 (d ∷ more) → ⊥
+strays : (es : Log) (d : Entry) (more : List Entry) → (tag_in d ≡ tag_of 0 0 0 → ⊥) → FollowsProxy one_home 0 one_server two_text (takes_one ∷ es) 0 (d ∷ more) → ⊥
 strays es d more differ h =
     differ (same_Some (tag_in d) (tag_of 0 0 0) (ap (λ (ts : List Tag). slice_get ts 0) h.3 ∙ first_sent es h.0 h.2))
 
 -- a run of these in which the first entry is not of the first command
 abbrev Stray : Clause → Type 0
-Stray one = Allows one (λ ring opening texts outs histories log. (number_of (loses 0) log ≡ 0) × (FollowsProxy ring texts log 0 (histories 0) → ⊥))
+Stray one = Allows one (λ home ring opening texts outs histories log. (number_of (drops 0 0) log ≡ 0) × (FollowsProxy home 0 ring texts log 0 (histories 0) → ⊥))
 
 stray : (one : Clause) (a m b n p q r s second : ℕ)
-    → ((losses : Losses) → AccountsBut one losses one_server a_cache (flush_by a m ∷ flush_by b n ∷ []) two_text (λ _. []) (first_only (entry_by p q ∷ entry_by r s ∷ [])) (two_turns second))
+    → ((losses : Losses) → AccountsBut one one_home losses one_server a_cache (flush_by a m ∷ flush_by b n ∷ []) two_text (λ _. []) (first_only (entry_by p q ∷ entry_by r s ∷ [])) (two_turns second))
     → (tag_of p q 0 ≡ tag_of 0 0 0 → ⊥) → Stray one
 stray one a m b n p q r s second but differ losses = (
+  one_home,
   one_server,
   a_cache,
   two_text,

@@ -18,6 +18,7 @@ use Rattle.mc_cache.specs.Settling.{settled}
 use Rattle.mc_cache.specs.Step.{held_under, step_of, unstored}
 use Rattle.mc_store.specs.Items.{body_at}
 use Rattle.mc_history.specs.declared.entries.Entry.{Entry}
+use Rattle.mc_world.specs.Homes.{Homes}
 use Rattle.mc_world.specs.Logs.{Log}
 use Rattle.mc_pool_laws.specs.Sent.{IsReplayed}
 use Rattle.mc_pool_laws.specs.Wanted.{AreWanted, WantsMemory, may_lengthen, may_store}
@@ -64,7 +65,7 @@ wants s (atoms.Meta (metas.Update update show)) moment h =
     record { exact = h; stores = w.stores; grows = w.grows }
 
 -- this holds of each entry of a history
-pub are_wanted : (ring : RingState) (texts : ℕ → List ℕ) (log : Log) (place : ℕ) (s : CacheState) (es : List Entry) → IsReplayed ring texts log place s es → AreWanted ring texts log place s es
-are_wanted ring texts log place s [] h = tt
-are_wanted ring texts log place s (e ∷ es) h =
-    (h.0, h.1, λ refused. wants s h.0 e.moment (h.2.legal refused), are_wanted ring texts log place (step_of s h.0 e.moment e.refused).0 es h.3)
+pub are_wanted : (home : Homes) (ring : RingState) (texts : ℕ → List ℕ) (log : Log) (place : ℕ) (s : CacheState) (es : List Entry) → IsReplayed home ring texts log place s es → AreWanted home ring texts log place s es
+are_wanted home ring texts log place s [] h = tt
+are_wanted home ring texts log place s (e ∷ es) h =
+    (h.0, h.1, λ refused. wants s h.0 e.moment (h.2.legal refused), are_wanted home ring texts log place (step_of s h.0 e.moment e.refused).0 es h.3)

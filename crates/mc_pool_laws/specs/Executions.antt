@@ -52,7 +52,7 @@ commands_of look (e ∷ es) = with_command (command_of look e) (commands_of look
 
 -- the places of the servers that took a request, one for each turn, in the order of the log
 abbrev pub turn_of : Logged → List ℕ
-turn_of (Happened (ServerTurn server generation moment)) = server ∷ []
+turn_of (Happened (ServerTurn proxy server generation moment)) = server ∷ []
 turn_of other = []
 
 abbrev pub turns_of : Log → List ℕ

@@ -42,7 +42,7 @@ two_histories place =
 -- their turns; that of the second is between those of the first
 abbrev pub three_turns : Log
 three_turns =
-    Happened (ProxyTurn 7) ∷ Happened (ProxyTurn 8) ∷ Happened (ServerTurn 0 1 5) ∷ Happened (ServerTurn 1 1 6) ∷ Happened (ServerTurn 0 1 9) ∷ []
+    Happened (ProxyTurn 7) ∷ Happened (ProxyTurn 8) ∷ Happened (ServerTurn 0 0 1 5) ∷ Happened (ServerTurn 0 1 1 6) ∷ Happened (ServerTurn 0 0 1 9) ∷ []
 
 -- client 7 sets a key, and client 8 gets it
 abbrev pub set_and_get : Order
@@ -56,7 +56,7 @@ one_history place =
     if place == 0 then entry_of 7 0 5 (codes "STORED\r\n") ∷ entry_of 8 0 6 (codes "VALUE k 0 1\r\nv\r\nEND\r\n") ∷ [] else []
 
 abbrev pub two_turns : Log
-two_turns = Happened (ProxyTurn 7) ∷ Happened (ServerTurn 0 1 5) ∷ Happened (ProxyTurn 8) ∷ Happened (ServerTurn 0 1 6) ∷ []
+two_turns = Happened (ProxyTurn 7) ∷ Happened (ServerTurn 0 0 1 5) ∷ Happened (ProxyTurn 8) ∷ Happened (ServerTurn 0 0 1 6) ∷ []
 
 -- a command that was not refused, executed by a server at a moment
 abbrev pub executed_at : ℕ → ℕ → Atom (List ℕ) → Executed

@@ -12,17 +12,18 @@ use Rattle.mc_world.specs.declared.logs.Logged.TheVariants.{Happened, Joined, Re
 use Rattle.mc_world.specs.Accounts.{Accounts}
 use Rattle.mc_world.specs.Logs.{Log, number_of, restarts}
 use Rattle.mc_world.specs.Steps.{GivesAccount}
+use Rattle.mc_world.specs.WorldState.{home_of}
 use Rattle.mc_world.specs.Worlds.{WorldState, cache_of, history_of, put_out_of, text_of}
 use Rattle.mc_pool_laws.specs.Executions.{LookUp, commands_of, executed, reply_texts, sent_at}
 
--- an entry that lets a server join
+-- an entry that lets a server join at a proxy
 abbrev pub joins : Logged → Bool
 joins (Happened event) = false
-joins (Joined server address) = true
+joins (Joined proxy server address up) = true
 joins (Restarted server) = false
 
--- A run is plain: no server joined, none restarted, and each command of each history is a plain step of its server's cache. So no store was refused,
--- nothing was evicted, and no command was a flush, compared an item's number, or showed it.
+-- A run is plain: no server joined at any proxy, none restarted, and each command of each history is a plain step of its server's cache. So no store
+-- was refused, nothing was evicted, and no command was a flush, compared an item's number, or showed it.
 pub record IsPlainRun (opening : CacheState) (look : LookUp) (histories : ℕ → List Entry) (log : Log) : Type 0 where
   pub unjoined : number_of joins log ≡ 0
   pub alive : (place : ℕ) → number_of (restarts place) log ≡ 0
@@ -46,5 +47,5 @@ ArePlainlyOfOneMap ring budget items look histories log =
 pub record ActsAsOneMap (w : WorldState) : Type 0 where
   pub account : GivesAccount w
   pub by_texts : ArePlainlyOfOneMap w.opening w.budget w.items (sent_at w.opening (text_of w.course)) (history_of w.course) w.course.log
-  pub by_order : (order : Order) → Accounts w.losses w.opening (cache_of w) order (text_of w.course) (put_out_of w.course) (history_of w.course) w.course.log
+  pub by_order : (order : Order) → Accounts (home_of w.course.pool) w.losses w.opening (cache_of w) order (text_of w.course) (put_out_of w.course) (history_of w.course) w.course.log
       → ArePlainlyOfOneMap w.opening w.budget w.items (command_at order) (history_of w.course) w.course.log

@@ -14,6 +14,7 @@ use Rattle.mc_proxy.specs.Sending.{tag_of}
 use Rattle.mc_history.specs.declared.entries.Entry.{Entry}
 use Rattle.mc_history.specs.Histories.{HasReply, tag_in}
 use Rattle.mc_world.specs.Accounts.{WasLost, WasNeverSentOrLost}
+use Rattle.mc_world.specs.Homes.{Homes}
 use Rattle.mc_world.specs.Logs.{Log, number_of, puts}
 use Rattle.mc_pool_laws.specs.Sent.{IsSent, IsTaken}
 
@@ -21,9 +22,9 @@ use Rattle.mc_pool_laws.specs.Sent.{IsSent, IsTaken}
 abbrev pub WasAnswered : Tag → Log → Type 0
 WasAnswered tag log = tag.request < number_of (puts tag.session) log
 
--- the link of a place was not lost between the turn that took a command's request and its answer
-abbrev pub LinkHeld : ℕ → Tag → Log → Type 0
-LinkHeld place tag log = WasLost place tag log → ⊥
+-- the link of a command's proxy to a place was not lost between the turn that took its request and the answer
+abbrev pub LinkHeld : Homes → ℕ → Tag → Log → Type 0
+LinkHeld home place tag log = WasLost (home tag.session) place tag log → ⊥
 
 -- a history has an entry of a command
 abbrev pub HasEntry : List Entry → Tag → Type 0
@@ -37,38 +38,38 @@ HasOneEntry histories place tag =
 
 -- a command of an answered request that was sent, and for which there is neither an entry in its server's history nor a loss in the
 -- log
-pub record IsUnaccounted (opening : RingState) (texts : ℕ → List ℕ) (histories : ℕ → List Entry) (log : Log) : Type 0 where
+pub record IsUnaccounted (home : Homes) (opening : RingState) (texts : ℕ → List ℕ) (histories : ℕ → List Entry) (log : Log) : Type 0 where
   pub tag : Tag
   pub command : Routed
-  pub sent : IsSent opening texts log tag command
+  pub sent : IsSent home opening texts log tag command
   pub answered : WasAnswered tag log
-  pub untold : HasEntry (histories command.server) tag ⊎ WasNeverSentOrLost command.server tag (histories command.server) log → ⊥
+  pub untold : HasEntry (histories command.server) tag ⊎ WasNeverSentOrLost home command.server tag (histories command.server) log → ⊥
 
 -- the outcome of a command: its server's history has its entry with this reply, or it is lost, and the log shows the loss
-abbrev pub HasOutcomeBy : (ℕ → List Entry) → Log → Tag → Routed → Outcome → Type 0
-HasOutcomeBy histories log tag command (Reply reply) = HasReply (histories command.server) tag (spelling_of command.atom reply)
-HasOutcomeBy histories log tag command Lost = WasNeverSentOrLost command.server tag (histories command.server) log
-HasOutcomeBy histories log tag command Awaited = ⊥
+abbrev pub HasOutcomeBy : Homes → (ℕ → List Entry) → Log → Tag → Routed → Outcome → Type 0
+HasOutcomeBy home histories log tag command (Reply reply) = HasReply (histories command.server) tag (spelling_of command.atom reply)
+HasOutcomeBy home histories log tag command Lost = WasNeverSentOrLost home command.server tag (histories command.server) log
+HasOutcomeBy home histories log tag command Awaited = ⊥
 
 -- the outcomes of the commands of one request, in sequence, the first of which has this number
-abbrev pub HaveOutcomesBy : (ℕ → List Entry) → Log → ℕ → ℕ → ℕ → List Routed → List Outcome → Type 0
-HaveOutcomesBy histories log client request at [] [] = Unit {0}
-HaveOutcomesBy histories log client request at [] (outcome ∷ outcomes) = ⊥
-HaveOutcomesBy histories log client request at (command ∷ commands) [] = ⊥
-HaveOutcomesBy histories log client request at (command ∷ commands) (outcome ∷ outcomes) =
-    HasOutcomeBy histories log (tag_of client request at) command outcome × HaveOutcomesBy histories log client request (suc at) commands outcomes
+abbrev pub HaveOutcomesBy : Homes → (ℕ → List Entry) → Log → ℕ → ℕ → ℕ → List Routed → List Outcome → Type 0
+HaveOutcomesBy home histories log client request at [] [] = Unit {0}
+HaveOutcomesBy home histories log client request at [] (outcome ∷ outcomes) = ⊥
+HaveOutcomesBy home histories log client request at (command ∷ commands) [] = ⊥
+HaveOutcomesBy home histories log client request at (command ∷ commands) (outcome ∷ outcomes) =
+    HasOutcomeBy home histories log (tag_of client request at) command outcome × HaveOutcomesBy home histories log client request (suc at) commands outcomes
 
 -- the answer to a client's request of a number, by a choice for lost commands, and by the outcomes of its commands
-pub record IsAnswerTo (losses : Losses) (opening : RingState) (texts : ℕ → List ℕ) (histories : ℕ → List Entry) (log : Log) (client request : ℕ) (answer : List ℕ) : Type 0 where
+pub record IsAnswerTo (home : Homes) (losses : Losses) (opening : RingState) (texts : ℕ → List ℕ) (histories : ℕ → List Entry) (log : Log) (client request : ℕ) (answer : List ℕ) : Type 0 where
   pub what : Parsed
   pub ring : RingState
-  pub taken : IsTaken opening texts log client request what ring
+  pub taken : IsTaken home opening texts log client request what ring
   pub outcomes : List Outcome
-  pub told : HaveOutcomesBy histories log client request 0 (route_of_taken ring what) outcomes
+  pub told : HaveOutcomesBy home histories log client request 0 (route_of_taken ring what) outcomes
   pub bytes : answer ≡ answer_by losses what outcomes
 
 -- the answers to a client's requests, in sequence, the first of which is to the request of this number
-abbrev pub AreAnswersFrom : Losses → RingState → (ℕ → List ℕ) → (ℕ → List Entry) → Log → ℕ → ℕ → List (List ℕ) → Type 0
-AreAnswersFrom losses opening texts histories log client request [] = Unit {0}
-AreAnswersFrom losses opening texts histories log client request (answer ∷ answers) =
-    IsAnswerTo losses opening texts histories log client request answer × AreAnswersFrom losses opening texts histories log client (suc request) answers
+abbrev pub AreAnswersFrom : Homes → Losses → RingState → (ℕ → List ℕ) → (ℕ → List Entry) → Log → ℕ → ℕ → List (List ℕ) → Type 0
+AreAnswersFrom home losses opening texts histories log client request [] = Unit {0}
+AreAnswersFrom home losses opening texts histories log client request (answer ∷ answers) =
+    IsAnswerTo home losses opening texts histories log client request answer × AreAnswersFrom home losses opening texts histories log client (suc request) answers

@@ -14,6 +14,7 @@ use Rattle.mc_cache.specs.Settling.{settled}
 use Rattle.mc_cache.specs.Step.{atom_key, held_under, step_of}
 use Rattle.mc_history.specs.declared.entries.Entry.{Entry}
 use Rattle.mc_history.specs.Histories.{tag_in}
+use Rattle.mc_world.specs.Homes.{Homes}
 use Rattle.mc_world.specs.Logs.{Log}
 use Rattle.mc_pool_laws.specs.Sent.{IsSent}
 
@@ -50,8 +51,8 @@ pub record WantsMemory (s : CacheState) (atom : Atom (List ℕ)) (moment : ℕ) 
 
 -- Memory is refused to no other command: each entry of a history is of a command that its client sent to this server. If memory was
 -- refused to it, it needed memory of the cache that the entry before has left.
-abbrev pub AreWanted : RingState → (ℕ → List ℕ) → Log → ℕ → CacheState → List Entry → Type 0
-AreWanted opening texts log place s [] = Unit {0}
-AreWanted opening texts log place s (e ∷ es) =
-    (atom : Atom (List ℕ)) × IsSent opening texts log (tag_in e) (to_place place atom) × (e.refused ≡ true → WantsMemory s atom e.moment)
-    × AreWanted opening texts log place (step_of s atom e.moment e.refused).0 es
+abbrev pub AreWanted : Homes → RingState → (ℕ → List ℕ) → Log → ℕ → CacheState → List Entry → Type 0
+AreWanted home opening texts log place s [] = Unit {0}
+AreWanted home opening texts log place s (e ∷ es) =
+    (atom : Atom (List ℕ)) × IsSent home opening texts log (tag_in e) (to_place place atom) × (e.refused ≡ true → WantsMemory s atom e.moment)
+    × AreWanted home opening texts log place (step_of s atom e.moment e.refused).0 es

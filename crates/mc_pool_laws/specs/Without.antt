@@ -18,7 +18,8 @@ use Rattle.mc_history.specs.declared.entries.Entry.{Entry}
 use Rattle.mc_history.specs.Histories.{HasReply, IsLegal, tag_in}
 use Rattle.mc_history.specs.Named.{tags_of}
 use Rattle.mc_world.specs.Accounts.{NotAnswered, WasNeverSentOrLost, WasTaken, answers_by}
-use Rattle.mc_world.specs.Logs.{IsRingAfter, Log, before, in_life, loses, moments_of, number_of, puts, serves, takes, turns_of}
+use Rattle.mc_world.specs.Homes.{Homes, of_proxy, tags_through}
+use Rattle.mc_world.specs.Logs.{IsRingAfter, Log, before, drops, in_life, moments_of, number_of, puts, serves, takes, turns_of}
 
 -- the clauses of an account, by their names there; the second part of `placed` has a name of its own
 pub data Clause : Type 0 where
@@ -41,11 +42,11 @@ pub data Clause : Type 0 where
   Unanswered : Clause
 
 -- the clauses of an account, except one, as they are there
-pub record AccountsBut (one : Clause) (losses : Losses) (ring : RingState) (opening : CacheState) (order : Order) (texts outs : ℕ → List ℕ) (histories : ℕ → List Entry) (log : Log) : Type 0 where
+pub record AccountsBut (one : Clause) (home : Homes) (losses : Losses) (ring : RingState) (opening : CacheState) (order : Order) (texts outs : ℕ → List ℕ) (histories : ℕ → List Entry) (log : Log) : Type 0 where
   pub asked : one ≢ Asked → (client : ℕ) → (untaken : List Parsed) × (taken_of client order ++ untaken ≡ requests_of (texts client))
   pub turns : one ≢ Turns → map (λ (e : TakenRequest). e.session) order ≡ turns_of log
   pub numbered : one ≢ Numbered → (client : ℕ) → AreInOrder (entries_of client order)
-  pub rings : one ≢ Rings → (client request : ℕ) (e : TakenRequest) → asked_at order client request ≡ Some e → IsRingAfter ring (before (takes client) request log) e.ring
+  pub rings : one ≢ Rings → (client request : ℕ) (e : TakenRequest) → asked_at order client request ≡ Some e → IsRingAfter (home client) ring (before (takes client) request log) e.ring
   pub sized : one ≢ Sized → All IsSized order
   pub legal : one ≢ Legal → (place life : ℕ) → IsLegal order place opening (in_life place life log (histories place))
   pub once : one ≢ Once → (r s j k : ℕ) (d e : Entry) → slice_get (histories r) j ≡ Some d → slice_get (histories s) k ≡ Some e → tag_in d ≡ tag_in e
@@ -53,12 +54,12 @@ pub record AccountsBut (one : Clause) (losses : Losses) (ring : RingState) (open
   pub replied : one ≢ Replied → (tag : Tag) (place : ℕ) (atom : Atom (List ℕ)) (reply : AReply (List ℕ)) → command_at order tag ≡ Some (to_place place atom)
       → outcome_at order tag ≡ Some (outcomes.Reply reply) → HasReply (histories place) tag (spelling_of atom reply)
   pub lost : one ≢ Lost → (tag : Tag) (place : ℕ) (atom : Atom (List ℕ)) → command_at order tag ≡ Some (to_place place atom)
-      → outcome_at order tag ≡ Some outcomes.Lost → WasNeverSentOrLost place tag (histories place) log
+      → outcome_at order tag ≡ Some outcomes.Lost → WasNeverSentOrLost home place tag (histories place) log
   pub ordered : one ≢ Ordered → (place j k : ℕ) (d e : Entry) (r q : AReply (List ℕ)) → slice_get (histories place) j ≡ Some d
       → slice_get (histories place) k ≡ Some e → j < k → d.client ≡ e.client → outcome_at order (tag_in d) ≡ Some (outcomes.Reply r)
       → outcome_at order (tag_in e) ≡ Some (outcomes.Reply q) → IsBefore (tag_in d) (tag_in e)
-  pub followed : one ≢ Followed → (place : ℕ) → number_of (loses place) log ≡ 0
-      → (untaken : List Tag) × (map tag_in (histories place) ++ untaken ≡ tags_of (commands_to place order))
+  pub followed : one ≢ Followed → (proxy place : ℕ) → number_of (drops proxy place) log ≡ 0
+      → (untaken : List Tag) × (tags_through home proxy (histories place) ++ untaken ≡ tags_of (commands_to place (of_proxy home proxy order)))
   pub answered : one ≢ Answered → (client : ℕ) → list_all is_complete (take (number_of (puts client) log) (entries_of client order)) ≡ true
   pub put : one ≢ Put → (client : ℕ) → outs client ≡ answers_by losses (take (number_of (puts client) log) (entries_of client order))
   pub after : one ≢ After → (client request : ℕ) → request < number_of (puts client) log → request < number_of (takes client) (before (puts client) request log)
@@ -69,7 +70,7 @@ pub record AccountsBut (one : Clause) (losses : Losses) (ring : RingState) (open
 
 -- for each choice for lost commands, a run exists of which by some order all clauses except one hold, and this holds
 -- too
-abbrev pub Allows : Clause → (RingState → CacheState → (ℕ → List ℕ) → (ℕ → List ℕ) → (ℕ → List Entry) → Log → Type 0) → Type 0
+abbrev pub Allows : Clause → (Homes → RingState → CacheState → (ℕ → List ℕ) → (ℕ → List ℕ) → (ℕ → List Entry) → Log → Type 0) → Type 0
 Allows one P =
-    (losses : Losses) → (ring : RingState) × (opening : CacheState) × (texts : ℕ → List ℕ) × (outs : ℕ → List ℕ) × (histories : ℕ → List Entry) × (log : Log)
-    × ((order : Order) × AccountsBut one losses ring opening order texts outs histories log) × P ring opening texts outs histories log
+    (losses : Losses) → (home : Homes) × (ring : RingState) × (opening : CacheState) × (texts : ℕ → List ℕ) × (outs : ℕ → List ℕ) × (histories : ℕ → List Entry) × (log : Log)
+    × ((order : Order) × AccountsBut one home losses ring opening order texts outs histories log) × P home ring opening texts outs histories log

@@ -6,15 +6,16 @@ ghost use Rattle.mc_route.specs.declared.losses.Losses.{Losses};
 ghost use Rattle.mc_cache.specs.CacheState.{CacheState};
 ghost use Rattle.mc_history.specs.declared.entries.Entry.{Entry};
 ghost use Rattle.mc_world.specs.Accounts.{Account};
+ghost use Rattle.mc_world.specs.Homes.{Homes};
 ghost use Rattle.mc_world.specs.Logs.{Log, before, number_of, puts, takes};
 ghost use Rattle.mc_pool_laws.specs.Outcomes.{AreAnswersFrom};
 
 /// An answer is emitted only to a request that was taken before.
 pub fn answers_follow_requests()
-    ensures few { (losses : Losses) (ring : RingState) (opening : CacheState) (texts outs : ℕ → List ℕ) (histories : ℕ → List Entry) (log : Log)
-        → Account losses ring opening texts outs histories log → (client : ℕ) → number_of (puts client) log ≤ number_of (takes client) log }
-    ensures each { (losses : Losses) (ring : RingState) (opening : CacheState) (texts outs : ℕ → List ℕ) (histories : ℕ → List Entry) (log : Log)
-        → Account losses ring opening texts outs histories log → (client request : ℕ) → request < number_of (puts client) log
+    ensures few { (home : Homes) (losses : Losses) (ring : RingState) (opening : CacheState) (texts outs : ℕ → List ℕ) (histories : ℕ → List Entry) (log : Log)
+        → Account home losses ring opening texts outs histories log → (client : ℕ) → number_of (puts client) log ≤ number_of (takes client) log }
+    ensures each { (home : Homes) (losses : Losses) (ring : RingState) (opening : CacheState) (texts outs : ℕ → List ℕ) (histories : ℕ → List Entry) (log : Log)
+        → Account home losses ring opening texts outs histories log → (client request : ℕ) → request < number_of (puts client) log
         → request < number_of (takes client) (before (puts client) request log) }
 {}
 
@@ -22,16 +23,16 @@ pub fn answers_follow_requests()
 /// to its commands whose encodings the servers' histories have. If a command was lost, which the log then shows, the answer follows the choice
 /// for lost commands.
 pub fn answers_are_those_of_the_histories()
-    ensures { (losses : Losses) (ring : RingState) (opening : CacheState) (texts outs : ℕ → List ℕ) (histories : ℕ → List Entry) (log : Log)
-        → Account losses ring opening texts outs histories log → (client : ℕ)
+    ensures { (home : Homes) (losses : Losses) (ring : RingState) (opening : CacheState) (texts outs : ℕ → List ℕ) (histories : ℕ → List Entry) (log : Log)
+        → Account home losses ring opening texts outs histories log → (client : ℕ)
         → (answers : List (List ℕ)) × (length answers ≡ number_of (puts client) log) × (outs client ≡ concat answers)
-        × AreAnswersFrom losses ring texts histories log client 0 answers }
+        × AreAnswersFrom home losses ring texts histories log client 0 answers }
 {}
 
 /// No bytes are emitted to a client if the log has no put for it, or if it sent nothing.
 pub fn nothing_is_put_out_unasked()
-    ensures without_put { (losses : Losses) (ring : RingState) (opening : CacheState) (texts outs : ℕ → List ℕ) (histories : ℕ → List Entry) (log : Log)
-        → Account losses ring opening texts outs histories log → (client : ℕ) → number_of (puts client) log ≡ 0 → outs client ≡ [] }
-    ensures without_text { (losses : Losses) (ring : RingState) (opening : CacheState) (texts outs : ℕ → List ℕ) (histories : ℕ → List Entry) (log : Log)
-        → Account losses ring opening texts outs histories log → (client : ℕ) → texts client ≡ [] → outs client ≡ [] }
+    ensures without_put { (home : Homes) (losses : Losses) (ring : RingState) (opening : CacheState) (texts outs : ℕ → List ℕ) (histories : ℕ → List Entry) (log : Log)
+        → Account home losses ring opening texts outs histories log → (client : ℕ) → number_of (puts client) log ≡ 0 → outs client ≡ [] }
+    ensures without_text { (home : Homes) (losses : Losses) (ring : RingState) (opening : CacheState) (texts outs : ℕ → List ℕ) (histories : ℕ → List Entry) (log : Log)
+        → Account home losses ring opening texts outs histories log → (client : ℕ) → texts client ≡ [] → outs client ≡ [] }
 {}

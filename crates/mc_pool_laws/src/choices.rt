@@ -21,6 +21,7 @@ ghost use Rattle.mc_cache.specs.CacheState.{opening_cache};
 ghost use Rattle.mc_history.specs.Histories.{HasReply};
 ghost use Rattle.mc_history.specs.declared.entries.Entry.{Entry};
 ghost use Rattle.mc_world.specs.Accounts.{Account, WasNeverSentOrLost};
+ghost use Rattle.mc_world.specs.Homes.{Homes};
 ghost use Rattle.mc_world.specs.Logs.{Log};
 ghost use Rattle.mc_pool_laws.specs.Choices.{HaveReplies, ShowReplies};
 ghost use Rattle.mc_pool_laws.specs.Outcomes.{IsAnswerTo};
@@ -28,31 +29,31 @@ ghost use Rattle.mc_pool_laws.specs.Outcomes.{IsAnswerTo};
 /// A value that is shown was a server's reply, as that server's history has it. This holds of each item of a `get`, whatever was lost; with
 /// `Told` it shows no item if a command was lost. With `Missed` an `mg` shows its server's reply, or, if it was lost, that there is no item.
 pub fn shown_values_are_replies()
-    ensures missed { (ring : RingState) (texts : ℕ → List ℕ) (histories : ℕ → List Entry) (log : Log) (client request : ℕ) (answer : List ℕ)
-        → (h : IsAnswerTo Missed ring texts histories log client request answer)
+    ensures missed { (home : Homes) (ring : RingState) (texts : ℕ → List ℕ) (histories : ℕ → List Entry) (log : Log) (client request : ℕ) (answer : List ℕ)
+        → (h : IsAnswerTo home Missed ring texts histories log client request answer)
         → (keys : List (List ℕ)) (exptime : Option ℤ) (with_cas : Bool) → h.what ≡ Whole (Get keys exptime with_cas)
         → (shown : List ℕ) × (answer ≡ shown ++ end_line) × ShowReplies histories client request 0 (route_of_taken h.ring h.what) keys shown }
-    ensures told { (ring : RingState) (texts : ℕ → List ℕ) (histories : ℕ → List Entry) (log : Log) (client request : ℕ) (answer : List ℕ)
-        → (h : IsAnswerTo Told ring texts histories log client request answer)
+    ensures told { (home : Homes) (ring : RingState) (texts : ℕ → List ℕ) (histories : ℕ → List Entry) (log : Log) (client request : ℕ) (answer : List ℕ)
+        → (h : IsAnswerTo home Told ring texts histories log client request answer)
         → (keys : List (List ℕ)) (exptime : Option ℤ) (with_cas : Bool) → h.what ≡ Whole (Get keys exptime with_cas) → answer ≢ lost_line
         → (shown : List ℕ) × (answer ≡ shown ++ end_line) × ShowReplies histories client request 0 (route_of_taken h.ring h.what) keys shown }
-    ensures meta_missed { (ring : RingState) (texts : ℕ → List ℕ) (histories : ℕ → List Entry) (log : Log) (client request : ℕ) (answer : List ℕ)
-        → (h : IsAnswerTo Missed ring texts histories log client request answer)
+    ensures meta_missed { (home : Homes) (ring : RingState) (texts : ℕ → List ℕ) (histories : ℕ → List Entry) (log : Log) (client request : ℕ) (answer : List ℕ)
+        → (h : IsAnswerTo home Missed ring texts histories log client request answer)
         → (key : List ℕ) (get : MetaGet) (form : MetaForm (List (List ℕ))) → h.what ≡ Whole (Meta (metas.Get key get) form)
         → ((reply : Reply (List ℕ)) × (answer ≡ answer_of (Meta (metas.Get key get) form) (reply ∷ []))
         × HasReply (histories (owner_in h.ring key)) (tag_of client request 0) (meta_spelling reply))
         ⊎ ((answer ≡ (if form.quiet then [] else codes "EN\r\n"))
-        × WasNeverSentOrLost (owner_in h.ring key) (tag_of client request 0) (histories (owner_in h.ring key)) log) }
+        × WasNeverSentOrLost home (owner_in h.ring key) (tag_of client request 0) (histories (owner_in h.ring key)) log) }
 {}
 
 /// Nothing is reported as done that has no entry. The answer to a request that is no retrieval is made of the replies of its servers, as their
 /// histories have them, one to each of its commands; or it is the line of a lost link. With `Missed` it may also be empty.
 pub fn done_is_executed()
-    ensures told { (ring : RingState) (texts : ℕ → List ℕ) (histories : ℕ → List Entry) (log : Log) (client request : ℕ) (answer : List ℕ)
-        → (h : IsAnswerTo Told ring texts histories log client request answer) → (what : Request) → h.what ≡ Whole what → answer ≢ lost_line
+    ensures told { (home : Homes) (ring : RingState) (texts : ℕ → List ℕ) (histories : ℕ → List Entry) (log : Log) (client request : ℕ) (answer : List ℕ)
+        → (h : IsAnswerTo home Told ring texts histories log client request answer) → (what : Request) → h.what ≡ Whole what → answer ≢ lost_line
         → (replies : List (Reply (List ℕ))) × (answer ≡ answer_of what replies) × HaveReplies histories client request 0 (route_of_taken h.ring h.what) replies }
-    ensures missed { (ring : RingState) (texts : ℕ → List ℕ) (histories : ℕ → List Entry) (log : Log) (client request : ℕ) (answer : List ℕ)
-        → (h : IsAnswerTo Missed ring texts histories log client request answer) → (what : Request) → h.what ≡ Whole what
+    ensures missed { (home : Homes) (ring : RingState) (texts : ℕ → List ℕ) (histories : ℕ → List Entry) (log : Log) (client request : ℕ) (answer : List ℕ)
+        → (h : IsAnswerTo home Missed ring texts histories log client request answer) → (what : Request) → h.what ≡ Whole what
         → is_retrieval what ≡ false → answer ≢ lost_line → answer ≢ []
         → (replies : List (Reply (List ℕ))) × (answer ≡ answer_of what replies) × HaveReplies histories client request 0 (route_of_taken h.ring h.what) replies }
 {}
@@ -62,6 +63,6 @@ pub fn done_is_executed()
 /// get was lost.
 pub fn a_miss_says_nothing_of_its_server()
     ensures { (ring : RingState) × (outs : ℕ → List ℕ) × (histories : ℕ → List Entry) × (log : Log)
-        × Account Missed ring (opening_cache 1000 10 0) (λ client. if 0 == client then codes "set k 0 0 1\r\nv\r\nget k\r\nget k\r\n" else []) outs histories log
+        × Account (λ _. 0) Missed ring (opening_cache 1000 10 0) (λ client. if 0 == client then codes "set k 0 0 1\r\nv\r\nget k\r\nget k\r\n" else []) outs histories log
         × (outs 0 ≡ codes "STORED\r\nEND\r\nVALUE k 0 1\r\nv\r\nEND\r\n") }
 {}

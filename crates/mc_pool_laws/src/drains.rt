@@ -7,6 +7,7 @@ ghost use Rattle.mc_route.specs.declared.losses.Losses.{Losses};
 ghost use Rattle.mc_cache.specs.CacheState.{CacheState};
 ghost use Rattle.mc_world.specs.Accounts.{Account};
 ghost use Rattle.mc_world.specs.Applies.{IsThere};
+ghost use Rattle.mc_world.specs.Homes.{Homes};
 ghost use Rattle.mc_world.specs.Drains.{Drains};
 ghost use Rattle.mc_world.specs.Logs.{Log};
 ghost use Rattle.mc_world.specs.Quiet.{IsQuiet};
@@ -23,8 +24,8 @@ pub fn drains_add_what_is_left()
 
 /// If nothing is left to do, each client that has not gone took the answers to all its requests.
 pub fn quiet_worlds_have_answered()
-    ensures { (losses : Losses) (ring : RingState) (opening : CacheState) (c : CourseState)
-        → Account losses ring opening (text_of c) (put_out_of c) (history_of c) c.log → IsQuiet c → (client : ℕ) → IsThere client c.pool
+    ensures { (home : Homes) (losses : Losses) (ring : RingState) (opening : CacheState) (c : CourseState)
+        → Account home losses ring opening (text_of c) (put_out_of c) (history_of c) c.log → IsQuiet c → (client : ℕ) → IsThere client c.pool
         → (answers : List (List ℕ)) × (length answers ≡ length (requests_of (text_of c client))) × (taken_by c client ≡ concat answers)
-        × AreAnswersFrom losses ring (text_of c) (history_of c) c.log client 0 answers }
+        × AreAnswersFrom home losses ring (text_of c) (history_of c) c.log client 0 answers }
 {}

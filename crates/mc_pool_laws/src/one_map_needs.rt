@@ -18,7 +18,7 @@ ghost use Rattle.mc_pool_laws.specs.OneMaps.{AreOfOneMap, joins};
 /// goes on. The histories are not those of one map.
 pub fn restarted_servers_are_not_one_map()
     ensures { (losses : Losses) → (ring : RingState) × (order : Order) × (texts : ℕ → List ℕ) × (outs : ℕ → List ℕ) × (histories : ℕ → List Entry) × (log : Log)
-        × Accounts losses ring (opening_cache 1000 10 0) order texts outs histories log
+        × Accounts (λ _. 0) losses ring (opening_cache 1000 10 0) order texts outs histories log
         × (texts 0 ≡ codes "set k 0 0 1\r\nv\r\nget k\r\n") × (outs 0 ≡ codes "STORED\r\nEND\r\n")
         × (number_of joins log ≡ 0) × (number_of (restarts 0) log ≡ 1)
         × ((place : ℕ) → ArePlainSteps (opening_cache 1000 10 0) (commands_of (command_at order) (histories place)))

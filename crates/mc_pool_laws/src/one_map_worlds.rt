@@ -10,14 +10,14 @@ use mc_text::Block;
 use mc_world::{Event, Losses, World, WorldError};
 use std::alloc::Global;
 
-/// A law on public calls alone. For any ring, choice for lost commands, clients, bounds, stores of any kind and list of events, the world
-/// that executed them gives account. If its run is plain, the histories of all its servers are those of one map, which takes all their
-/// commands in the order of their turns.
+/// A law on public calls alone. For any ring, choice for lost commands, number of proxies with their clients, bounds, stores of any kind and list of
+/// events, the world that executed them gives account. If its run is plain, the histories of all its servers are those of one map, which takes all
+/// their commands in the order of their turns.
 pub fn worlds_act_as_one_map<S: Store + Drop>(
     alloc: Global,
     ring: Ring,
     losses: Losses,
-    clients: usize,
+    clients: &[usize],
     budget: u64,
     items: usize,
     stores: Vec<S>,
@@ -30,7 +30,7 @@ pub fn worlds_act_as_one_map<S: Store + Drop>(
     if !is_within_bounds(budget, items) {
         return Err(WorldError::BadWorld);
     }
-    let mut world = World::with_losses(alloc, ring, losses, clients, budget, items, stores)?;
+    let mut world = World::with_proxies(alloc, ring, losses, clients, budget, items, stores)?;
     world.run(events);
     Ok(world)
 }

@@ -8,27 +8,28 @@ ghost use Rattle.mc_cache.specs.CacheState.{CacheState};
 ghost use Rattle.mc_account.specs.Orders.{Tagged};
 ghost use Rattle.mc_history.specs.declared.entries.Entry.{Entry};
 ghost use Rattle.mc_world.specs.Accounts.{Account};
+ghost use Rattle.mc_world.specs.Homes.{Homes};
 ghost use Rattle.mc_world.specs.Logs.{IsRingAfter, Log, number_of, takes};
 ghost use Rattle.mc_pool_laws.specs.Followed.{AreSentBy};
 ghost use Rattle.mc_pool_laws.specs.Sent.{IsTaken};
 
-/// A request is taken only if its client sent it whole. It is the one of its number in the client's text, and a ring of that moment exists.
+/// A request is taken only if its client sent it whole. It is the one of its number in the client's text, and its proxy has a ring of that moment.
 pub fn requests_are_taken_as_sent()
-    ensures few { (losses : Losses) (ring : RingState) (opening : CacheState) (texts outs : ℕ → List ℕ) (histories : ℕ → List Entry) (log : Log)
-        → Account losses ring opening texts outs histories log → (client : ℕ) → number_of (takes client) log ≤ length (requests_of (texts client)) }
-    ensures each { (losses : Losses) (ring : RingState) (opening : CacheState) (texts outs : ℕ → List ℕ) (histories : ℕ → List Entry) (log : Log)
-        → Account losses ring opening texts outs histories log → (client request : ℕ) → request < number_of (takes client) log
-        → (what : Parsed) × (now : RingState) × IsTaken ring texts log client request what now }
+    ensures few { (home : Homes) (losses : Losses) (ring : RingState) (opening : CacheState) (texts outs : ℕ → List ℕ) (histories : ℕ → List Entry) (log : Log)
+        → Account home losses ring opening texts outs histories log → (client : ℕ) → number_of (takes client) log ≤ length (requests_of (texts client)) }
+    ensures each { (home : Homes) (losses : Losses) (ring : RingState) (opening : CacheState) (texts outs : ℕ → List ℕ) (histories : ℕ → List Entry) (log : Log)
+        → Account home losses ring opening texts outs histories log → (client request : ℕ) → request < number_of (takes client) log
+        → (what : Parsed) × (now : RingState) × IsTaken home ring texts log client request what now }
 {}
 
-/// The commands sent to a server are one list, which the clients' texts and the log determine. So a history that follows the proxy is
-/// determined too.
+/// The commands that a proxy sent to a server are one list, which the clients' texts and the log determine. So what a history that follows the proxy
+/// has of its clients is determined too.
 pub fn sent_commands_are_one()
-    ensures { (ring : RingState) (texts : ℕ → List ℕ) (log : Log) (place : ℕ) (a b : List Tagged)
-        → AreSentBy ring texts place [] log a → AreSentBy ring texts place [] log b → a ≡ b }
+    ensures { (home : Homes) (proxy : ℕ) (ring : RingState) (texts : ℕ → List ℕ) (log : Log) (place : ℕ) (a b : List Tagged)
+        → AreSentBy home proxy ring texts place [] log a → AreSentBy home proxy ring texts place [] log b → a ≡ b }
 {}
 
-/// A log leaves one ring. So the server of each command is determined.
+/// A log leaves each proxy one ring. So the server of each command is determined.
 pub fn rings_are_one()
-    ensures { (ring a b : RingState) (log : Log) → IsRingAfter ring log a → IsRingAfter ring log b → a ≡ b }
+    ensures { (proxy : ℕ) (ring a b : RingState) (log : Log) → IsRingAfter proxy ring log a → IsRingAfter proxy ring log b → a ≡ b }
 {}

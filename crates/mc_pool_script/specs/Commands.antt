@@ -2,7 +2,7 @@
 use Rattle.std.specs.Prelude.{ℕ, List, Option, Some, None, codes, if◌then◌else◌}
 use Rattle.std.specs.Str.{bytes_eq}
 use Rattle.mc_pool_script.specs.declared.commands.Command.{Command}
-use Rattle.mc_pool_script.specs.declared.commands.Command.TheVariants.{Bytes, Gone, Turn, Emit, Takes, ToServer, Serve, ToProxy, Reply, Lost, Back, End, Join, Restart, Drain}
+use Rattle.mc_pool_script.specs.declared.commands.Command.TheVariants.{Bytes, Gone, Turn, Emit, Takes, ToServer, Serve, ToProxy, Reply, Lost, Back, End, Join, Restart, ProxyRestart, Drain}
 
 -- the command of a client that a name stands for
 unfoldable pub client_command : List ℕ → Option Command
@@ -23,7 +23,7 @@ way_command name =
     else if bytes_eq name (codes "reply") then Some Reply
     else None
 
--- the command that a name stands for: of a link, of a server that joins or restarts, or of a drain
+-- the command that a name stands for: of a link, of a server that joins or restarts, of a proxy that restarts, or of a drain
 unfoldable pub link_command : List ℕ → Option Command
 link_command name =
     if bytes_eq name (codes "lost") then Some Lost
@@ -31,5 +31,6 @@ link_command name =
     else if bytes_eq name (codes "end") then Some End
     else if bytes_eq name (codes "join") then Some Join
     else if bytes_eq name (codes "restart") then Some Restart
+    else if bytes_eq name (codes "proxyrestart") then Some ProxyRestart
     else if bytes_eq name (codes "drain") then Some Drain
     else None

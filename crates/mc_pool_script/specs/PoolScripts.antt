@@ -1,6 +1,6 @@
 -- Pool scripts. Source: this project's own.
-use Rattle.std.specs.Prelude.{◌≡◌, Bool, true, false, ℕ, ◌^◌, ◌+◌, ◌*◌, ◌==◌, ◌&&◌, ◌<◌, ◌≤◌, All, List, [], ◌∷◌, ◌++◌, length, map, Option, Some, None, is_some, Result, Ok, Err, option_and_then, codes, decimal, if◌then◌else◌}
-use Rattle.std.specs.List.{flat_map, range_with_len}
+use Rattle.std.specs.Prelude.{◌≡◌, nat_le, Bool, true, false, ℕ, ◌^◌, ◌+◌, ◌*◌, ◌==◌, ◌&&◌, ◌<◌, ◌≤◌, All, List, [], ◌∷◌, ◌++◌, length, map, slice_index_or, slice_set, Option, Some, None, is_some, Result, Ok, Err, option_and_then, codes, decimal, if◌then◌else◌}
+use Rattle.std.specs.List.{flat_map, range_with_len, sum_by}
 use Rattle.std.specs.Option.{option_map, option_map_or, unwrap_or}
 use Rattle.std.specs.Str.{bytes_eq}
 use Rattle.mc_ring.specs.Points.{pair_at, pairs_of}
@@ -17,13 +17,14 @@ use Rattle.mc_script.specs.Scripts.{◌>>=◌}
 use Rattle.mc_cache.specs.CacheState.{IsWithinBounds}
 use Rattle.mc_pool_script.specs.PoolLines.{line_of, HasMoment}
 use Rattle.mc_pool_script.specs.declared.lines.PoolLine.{PoolLine}
-use Rattle.mc_pool_script.specs.declared.lines.PoolLine.TheVariants.{Event, Join, Restart, Drain}
+use Rattle.mc_pool_script.specs.declared.lines.PoolLine.TheVariants.{Join, Learn}
 
 -- the content of a script
 pub record PoolSeen : Type 0 where
-  -- the number of servers at first, and the number of clients
+  -- the number of servers at first, the number of clients of each proxy, and the number of proxies
   pub servers : ℕ
   pub clients : ℕ
+  pub proxies : ℕ
   -- the limits of each server's cache
   pub budget : ℕ
   pub items : ℕ
@@ -42,19 +43,45 @@ first_server place = codes "127.0.0.1:" ++ decimal (11211 + place)
 abbrev pub first_servers : ℕ → List (List ℕ)
 first_servers count = map first_server (range_with_len 0 count)
 
--- the address of a server that joins
+-- the address of a new server
 abbrev pub joined_by : PoolLine → List (List ℕ)
-joined_by (Event event) = []
-joined_by (Join address) = address ∷ []
-joined_by (Restart server) = []
-joined_by (Drain moment) = []
+joined_by (Join proxy address) = address ∷ []
+joined_by other = []
 
 -- all servers once these lines were played
 abbrev pub servers_of : PoolSeen → List (List ℕ)
 servers_of seen = first_servers seen.servers ++ flat_map joined_by seen.lines
 
--- the servers, clients, budget and items of a line `pool <servers> <clients> <budget> <items>`
-unfoldable pub limits_of : List ℕ → Option (ℕ × ℕ × ℕ × ℕ)
+-- how many servers more a proxy knows after a line: one that joins at it, or that it learns
+abbrev pub known_by : ℕ → PoolLine → ℕ
+known_by proxy (Join at address) = if at == proxy then 1 else 0
+known_by proxy (Learn at address) = if at == proxy then 1 else 0
+known_by proxy other = 0
+
+-- how many each proxy knows once these lines were played: at first all
+abbrev pub known_of : PoolSeen → List ℕ
+known_of seen = map (λ proxy. seen.servers + sum_by (known_by proxy) seen.lines) (range_with_len 0 seen.proxies)
+
+-- how many each proxy knows after one more line, by how many it knows before
+abbrev pub known_after : List ℕ → PoolLine → List ℕ
+known_after known (Join proxy address) = slice_set known proxy (slice_index_or known proxy 0 + 1)
+known_after known (Learn proxy address) = slice_set known proxy (slice_index_or known proxy 0 + 1)
+known_after known other = known
+
+-- the number of all clients
+abbrev pub clients_of : PoolSeen → ℕ
+clients_of seen = seen.clients * seen.proxies
+
+-- the number of proxies, which may be left out, after a first line's last limit: an item limit, or that and a number of proxies
+unfoldable pub last_limits_of : List ℕ → Option (ℕ × ℕ)
+last_limits_of text = do
+  items ← limit_of (2 ^ 24) (unwrap_or (cut_at_space text) (text, codes "1")).0
+  proxies ← limit_of 64 (unwrap_or (cut_at_space text) (text, codes "1")).1
+  Some (items, proxies)
+
+-- the limits of a line `pool <servers> <clients> <budget> <items>`, or `pool <servers> <clients> <budget> <items> <proxies>`: servers, clients of each
+-- proxy, budget, items, proxies. All proxies have at most 1,024 clients
+unfoldable pub limits_of : List ℕ → Option (ℕ × ℕ × ℕ × ℕ × ℕ)
 limits_of line = do
   command ← cut_at_space line
   counts ← cut_at_space command.1
@@ -63,12 +90,21 @@ limits_of line = do
   servers ← limit_of 64 counts.0
   clients ← limit_of 1024 others.0
   budget ← limit_of (2 ^ 40) limits.0
-  items ← limit_of (2 ^ 24) limits.1
-  if bytes_eq command.0 (codes "pool") then Some (servers, clients, budget, items) else None
+  last ← last_limits_of limits.1
+  if bytes_eq command.0 (codes "pool") && nat_le (clients * last.1) 1024 then Some (servers, clients, budget, last.0, last.1) else None
 
 -- a script of these limits alone
-abbrev pub opening_script : ℕ × ℕ × ℕ × ℕ → PoolSeen
-opening_script limits = record { servers = limits.0; clients = limits.1; budget = limits.2; items = limits.3; points = []; losses = None; lines = [] }
+abbrev pub opening_script : ℕ × ℕ × ℕ × ℕ × ℕ → PoolSeen
+opening_script limits = record {
+  servers = limits.0;
+  clients = limits.1;
+  proxies = limits.4;
+  budget = limits.2;
+  items = limits.3;
+  points = [];
+  losses = None;
+  lines = [];
+}
 
 -- the script of a first line
 abbrev pub head_of : List ℕ → Option PoolSeen
@@ -136,7 +172,7 @@ read_more seen line = do
       then with_point seen (point_of seen.servers words.1)
       else if bytes_eq words.0 (codes "losses") && length seen.lines == 0
       then with_losses seen (losses_named words.1)
-      else with_line seen (line_of seen.clients (servers_of seen) line)
+      else with_line seen (line_of (clients_of seen) (servers_of seen) (known_of seen) line)
 
 -- a script with all lines that follow, or the number of the first of them that is bad
 unfoldable pub read_all : PoolSeen → List (ℕ × List ℕ) → Result PoolSeen ℕ
@@ -157,7 +193,9 @@ pub record IsPoolScript (seen : PoolSeen) : Type 0 where
   pub some_servers : 1 ≤ seen.servers
   pub few_servers : seen.servers ≤ 64
   pub some_clients : 1 ≤ seen.clients
-  pub few_clients : seen.clients ≤ 1024
+  pub some_proxies : 1 ≤ seen.proxies
+  pub few_proxies : seen.proxies ≤ 64
+  pub few_clients : clients_of seen ≤ 1024
   pub bounds : IsWithinBounds seen.budget seen.items
   pub places : All (λ (p : Point). p.place < seen.servers) seen.points
   pub moments : All (λ line. HasMoment line (2 ^ 63)) seen.lines

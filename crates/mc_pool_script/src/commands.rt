@@ -34,6 +34,8 @@ pub enum Command {
     Join,
     /// `restart`
     Restart,
+    /// `proxyrestart`
+    ProxyRestart,
     /// `drain`
     Drain,
 }
@@ -90,6 +92,8 @@ fn link_command(name: &[u8]) -> Option<Command>
         Some(Command::Join)
     } else if name == b"restart".as_slice() {
         Some(Command::Restart)
+    } else if name == b"proxyrestart".as_slice() {
+        Some(Command::ProxyRestart)
     } else if name == b"drain".as_slice() {
         Some(Command::Drain)
     } else {

@@ -2,12 +2,12 @@
 //!
 //! [`is_of_pool`] distinguishes such a script from one of a server. [`read_pool_script`] reads a script's bytes as a [`PoolScript`];
 //! [`PoolScript::ring`] is the ring that its pool begins with, and [`PoolScript::losses`] its choice for lost commands.
-//! [`PoolScript::lines`] are its further lines, in order: an event of a world, a server that joins or restarts, or a drain
-//! ([`PoolLine`]).
+//! [`PoolScript::lines`] are its further lines, in order: an event of a world, a server that joins, is learned or restarts, a proxy that
+//! restarts, or a drain ([`PoolLine`]).
 //!
-//! A script is lines of text. The first is `pool <servers> <clients> <budget> <items>`. Lines `point <8 hexadecimal digits> <server>`
-//! straight after it give the ring's points, and one line `losses told` or `losses missed` among these gives the choice for lost
-//! commands. Then each line is one event. The definitions in `specs/` say what each line means; worked examples are in `src/examples.rt`.
+//! A script is lines of text. The first is `pool <servers> <clients> <budget> <items>`, with the number of proxies after it if there are
+//! several; each proxy has that many clients. Lines `point <8 hexadecimal digits> <server>` straight after it give the ring's points, and one
+//! line `losses told` or `losses missed` among these gives the choice for lost commands. Then each line is one event. The definitions in `specs/` say what each line means; worked examples are in `src/examples.rt`.
 //! Lines, escapes and numbers are those of `mc_script`.
 //!
 //! # Played and printed
@@ -41,8 +41,8 @@ mod worlds;
 
 pub use commands::Command;
 pub use examples::{
-    lines_of_clients, lines_of_drains, lines_of_joins, lines_of_restarts, lines_of_servers,
-    losses_of_scripts, points_of_servers,
+    limits_of_heads, lines_of_clients, lines_of_drains, lines_of_joins, lines_of_joins_at_proxies,
+    lines_of_links, lines_of_restarts, lines_of_servers, losses_of_scripts, points_of_servers,
 };
 pub use kinds::is_of_pool;
 pub use lines::PoolLine;

@@ -4,7 +4,8 @@ ghost use Rattle.mc_cache.specs.CacheState.{opening_cache};
 ghost use Rattle.mc_pool_script.specs.PoolLines.{HasMoment};
 ghost use Rattle.mc_pool_script.specs.Plays.{HasPlayed, KeepsOpening, Plays};
 ghost use Rattle.mc_world.specs.Drains.{Drains};
-ghost use Rattle.mc_world.specs.Joins.{HasServerJoined};
+ghost use Rattle.mc_world.specs.Joins.{HasLearnedServer, HasServerJoined};
+ghost use Rattle.mc_world.specs.ProxyRestarts.{IsAnew, ProxyDies};
 ghost use Rattle.mc_world.specs.Restarts.{HasServerRestarted};
 ghost use Rattle.mc_world.specs.Quiet.{IsQuiet};
 ghost use Rattle.mc_world.specs.Rounds.{DrainsInRounds};
@@ -23,7 +24,8 @@ use std::alloc::Global;
 pub struct Played<S: ScriptStore> {
     /// The world after the script.
     pub world: World<S>,
-    /// What each line did, in order. A server that joins or restarts is `Done`, and so is a drain.
+    /// What each line did, in order. A server that joins, is learned or restarts is `Done`, and so are a proxy
+    /// that restarts and a drain.
     pub steps: Vec<Step>,
 }
 
@@ -63,8 +65,16 @@ fn play<S: ScriptStore>(
             Ok(step) => Ok(step),
             Err(_) => Err(SimError::Memory),
         },
-        PoolLine::Join(address) => {
-            join(alloc, world, items, address)?;
+        PoolLine::Join(proxy, address) => {
+            join(alloc, world, items, *proxy, address)?;
+            Ok(Step::Done)
+        }
+        PoolLine::Learn(proxy, address) => {
+            learn(world, *proxy, address)?;
+            Ok(Step::Done)
+        }
+        PoolLine::ProxyRestart(proxy) => {
+            restart_proxy(world, *proxy)?;
             Ok(Step::Done)
         }
         PoolLine::Restart(server) => {
@@ -94,23 +104,56 @@ fn drain<S: ScriptStore>(world: &mut World<S>, moment: u64) -> Result<(), SimErr
     }
 }
 
-/// Lets a server join.
+/// Lets a proxy learn a server.
+fn learn<S: ScriptStore>(
+    world: &mut World<S>,
+    proxy: usize,
+    address: &Address,
+) -> Result<(), SimError>
+    ensures learns { OnOk result (HasLearnedServer proxy address.now world.old.course world.new.course) }
+    ensures keeps { OnOk result (KeepsOpening world.old world.new) }
+    ensures account { OnOk result (GivesAccount world.new) }
+    ensures only_memory { IsOkUnless result SimError.Memory }
+{
+    let address = address.copy()?;
+    match world.learn_server(proxy, address) {
+        Ok(_) => Ok(()),
+        Err(_) => Err(SimError::Memory),
+    }
+}
+
+/// Lets a proxy restart.
+fn restart_proxy<S: ScriptStore>(world: &mut World<S>, proxy: usize) -> Result<(), SimError>
+    ensures dies { OnOk result (ProxyDies proxy world.old.course world.new.course) }
+    ensures anew { OnOk result (IsAnew proxy world.new.course.pool) }
+    ensures keeps { OnOk result (KeepsOpening world.old world.new) }
+    ensures account { OnOk result (GivesAccount world.new) }
+    ensures only_memory { IsOkUnless result SimError.Memory }
+{
+    match world.restart_proxy(proxy) {
+        Ok(()) => Ok(()),
+        Err(_) => Err(SimError::Memory),
+    }
+}
+
+/// Lets a server join at a proxy.
 fn join<S: ScriptStore>(
     alloc: Global,
     world: &mut World<S>,
     items: usize,
+    proxy: usize,
     address: &Address,
 ) -> Result<(), SimError>
     requires items { items ≡ world.old.items }
     requires few { items + 1 < 2 ^ 64 }
-    ensures joins { OnOk result (HasServerJoined address.now (opening_cache world.old.budget world.old.items 0) world.old.course world.new.course) }
+    ensures joins { OnOk result (HasServerJoined proxy address.now (opening_cache world.old.budget world.old.items 0) world.old.course world.new.course) }
     ensures keeps { OnOk result (KeepsOpening world.old world.new) }
     ensures account { OnOk result (GivesAccount world.new) }
     ensures only_memory { IsOkUnless result SimError.Memory }
 {
     let store = S::opened(alloc, items)?;
     let address = address.copy()?;
-    match world.join_server(address, store) {
+    match world.join_server_at(proxy, address, store) {
         Ok(_) => Ok(()),
         Err(_) => Err(SimError::Memory),
     }

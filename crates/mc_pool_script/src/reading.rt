@@ -6,21 +6,24 @@ use crate::client_lines::{read_bytes, read_takes};
 use crate::commands::{Command, command_of};
 use crate::joins::read_join;
 use crate::lines::PoolLine;
-use crate::server_lines::{read_end, read_serve, read_server, read_to_proxy, read_to_server};
+use crate::server_lines::{
+    read_end, read_link, read_serve, read_server, read_to_proxy, read_to_server,
+};
 use mc_ring::Address;
 use mc_script::{SimError, cut_at_space, read_moment, read_place};
 use mc_world::Event;
 use std::alloc::Global;
 
-/// The meaning of a line, if there are this many clients and these servers.
+/// The meaning of a line, if there are this many clients and these servers, of which each proxy knows this many.
 #[tactic(auto, unfolding(crate::specs::PoolLines::line_of))]
 pub fn read_line(
     alloc: Global,
     clients: u64,
     servers: &[Address],
+    known: &[usize],
     line: &[u8],
 ) -> Result<Option<PoolLine>, SimError>
-    ensures line { IfOk result (λ found. found ≡ line_of clients servers.now line.now) }
+    ensures line { IfOk result (λ found. found ≡ line_of clients servers.now known.now line.now) }
     ensures moment { IfOk result (λ found. IfSome found (λ line. HasMoment line (2 ^ 63))) }
     ensures only_memory { IsOkUnless result SimError.Memory }
 {
@@ -32,14 +35,20 @@ pub fn read_line(
     };
     match command {
         Command::Bytes => read_bytes(alloc, clients, text),
-        Command::Join => read_join(alloc, servers, text),
-        _ => Ok(read_numbers(clients, servers.len(), command, text)),
+        Command::Join => read_join(alloc, servers, known, text),
+        _ => Ok(read_numbers(clients, servers.len(), known, command, text)),
     }
 }
 
 /// The meaning of a line whose words are numbers alone, by its command and the text after its name.
-fn read_numbers(clients: u64, servers: usize, command: Command, text: &[u8]) -> Option<PoolLine>
-    ensures line { result ≡ numbers_line clients servers command text.now }
+fn read_numbers(
+    clients: u64,
+    servers: usize,
+    known: &[usize],
+    command: Command,
+    text: &[u8],
+) -> Option<PoolLine>
+    ensures line { result ≡ numbers_line clients servers known.now command text.now }
     ensures moment { IfSome result (λ line. HasMoment line (2 ^ 63)) }
 {
     match command {
@@ -52,21 +61,25 @@ fn read_numbers(clients: u64, servers: usize, command: Command, text: &[u8]) -> 
         Command::Emit => Some(PoolLine::Event(Event::Emit {
             client: read_place(text, clients)?,
         })),
-        Command::Reply => Some(PoolLine::Event(Event::ReplyTurn {
-            server: read_server(servers, text)?,
-        })),
-        Command::Lost => Some(PoolLine::Event(Event::LinkLost {
-            server: read_server(servers, text)?,
-        })),
-        Command::Back => Some(PoolLine::Event(Event::LinkBack {
-            server: read_server(servers, text)?,
-        })),
+        Command::Reply => {
+            let (proxy, server) = read_link(known, text)?;
+            Some(PoolLine::Event(Event::ReplyTurn { proxy, server }))
+        }
+        Command::Lost => {
+            let (proxy, server) = read_link(known, text)?;
+            Some(PoolLine::Event(Event::LinkLost { proxy, server }))
+        }
+        Command::Back => {
+            let (proxy, server) = read_link(known, text)?;
+            Some(PoolLine::Event(Event::LinkBack { proxy, server }))
+        }
         Command::Takes => read_takes(clients, text),
-        Command::ToServer => read_to_server(servers, text),
-        Command::Serve => read_serve(servers, text),
-        Command::ToProxy => read_to_proxy(servers, text),
-        Command::End => read_end(servers, text),
+        Command::ToServer => read_to_server(known, text),
+        Command::Serve => read_serve(known, text),
+        Command::ToProxy => read_to_proxy(known, text),
+        Command::End => read_end(known, text),
         Command::Restart => Some(PoolLine::Restart(read_server(servers, text)?)),
+        Command::ProxyRestart => Some(PoolLine::ProxyRestart(read_server(known.len(), text)?)),
         Command::Drain => Some(PoolLine::Drain(read_moment(text)?)),
         Command::Bytes | Command::Join => None,
     }

@@ -1,11 +1,11 @@
 //! Pool scripts.
-ghost use Rattle.std.specs.Prelude.{◌≡◌, ◌≤◌, ◌<◌, ◌^◌, None, Ok, length, IfOk, IfErr, IfSome, IsOkUnless, OnOk};
+ghost use Rattle.std.specs.Prelude.{ℕ, ◌≡◌, ◌≤◌, ◌<◌, ◌+◌, ◌++◌, ◌*◌, ◌^◌, None, Ok, length, slice_index_or, IfOk, IfErr, IfSome, IsOkUnless, OnErr, OnOk};
 ghost use Rattle.mc_cache.specs.CacheState.{IsWithinBounds};
 ghost use Rattle.mc_ring.specs.Refusals.{cause_of, refusal_in};
 ghost use Rattle.mc_ring.specs.Rings.{Shows};
 ghost use Rattle.mc_script.specs.ScriptSeen.{Explains};
 ghost use Rattle.mc_pool_script.specs.PoolLines.{HasMoment, line_of};
-ghost use Rattle.mc_pool_script.specs.PoolScripts.{Gives, IsOpeningRing, IsPoolScript, followed, head_of, limits_of, losses_named, losses_of, pairs_of_pool, point_of, pool_script_of, read_all, read_more, refusal_of_pool, servers_of, with_line, with_losses, with_point};
+ghost use Rattle.mc_pool_script.specs.PoolScripts.{Gives, IsOpeningRing, IsPoolScript, clients_of, followed, head_of, joined_by, known_after, known_of, last_limits_of, limits_of, losses_named, losses_of, pairs_of_pool, point_of, pool_script_of, read_all, read_more, refusal_of_pool, servers_of, with_line, with_losses, with_point};
 
 use crate::addresses::first_addresses;
 use crate::lines::PoolLine;
@@ -19,14 +19,19 @@ use mc_script::{LineIter, SimError, cut_at_space, lines_of, read_limit};
 use std::alloc::{AllocError, Global};
 use std::marker::Model;
 
-/// The most clients.
+/// The most clients of all proxies.
 const MAX_CLIENTS: u64 = 1024;
+
+/// The most proxies.
+const MAX_PROXIES: u64 = 64;
 
 /// A pool script. Contracts see its content.
 #[derive(Drop)]
 pub struct PoolScript {
     servers: usize,
+    /// How many clients each proxy has.
     clients: u64,
+    proxies: usize,
     budget: u64,
     items: usize,
     points: Vec<Point>,
@@ -35,27 +40,46 @@ pub struct PoolScript {
     lines: Vec<PoolLine>,
     /// The addresses of all servers, those that join included.
     addresses: Vec<Address>,
+    /// How many of them each proxy knows.
+    known: Vec<usize>,
 }
 
 impl Model for PoolScript {
     ghost use Rattle.std.specs.Prelude.{◌≡◌};
-    ghost use Rattle.mc_pool_script.specs.PoolScripts.{IsPoolScript, PoolSeen, servers_of};
+    ghost use Rattle.mc_pool_script.specs.PoolScripts.{IsPoolScript, PoolSeen, known_of, servers_of};
 
     ghost Value = { PoolSeen };
 
-    ghost view = { λ s. record { servers = s.servers; clients = s.clients; budget = s.budget; items = s.items; points = s.points.items; losses = s.losses; lines = s.lines.items } };
+    ghost view = { λ s. record { servers = s.servers; clients = s.clients; proxies = s.proxies; budget = s.budget; items = s.items; points = s.points.items; losses = s.losses; lines = s.lines.items } };
 
-    ghost invariant = { λ s. IsPoolScript (record { servers = s.servers; clients = s.clients; budget = s.budget; items = s.items; points = s.points.items; losses = s.losses; lines = s.lines.items })
-        × (s.addresses.items ≡ servers_of (record { servers = s.servers; clients = s.clients; budget = s.budget; items = s.items; points = s.points.items; losses = s.losses; lines = s.lines.items })) };
+    ghost invariant = { λ s. IsPoolScript (record { servers = s.servers; clients = s.clients; proxies = s.proxies; budget = s.budget; items = s.items; points = s.points.items; losses = s.losses; lines = s.lines.items })
+        × (s.addresses.items ≡ servers_of (record { servers = s.servers; clients = s.clients; proxies = s.proxies; budget = s.budget; items = s.items; points = s.points.items; losses = s.losses; lines = s.lines.items }))
+        × (s.known.items ≡ known_of (record { servers = s.servers; clients = s.clients; proxies = s.proxies; budget = s.budget; items = s.items; points = s.points.items; losses = s.losses; lines = s.lines.items })) };
 }
 
 impl PoolScript {
-    /// How many clients the pool has: 1 to 1024, of the numbers from 0 on.
+    /// How many clients each proxy has: 1 to 1024.
     pub fn clients(&self) -> usize
         ensures clients { result ≡ self.now.clients }
         ensures script { IsPoolScript self.now }
     {
         self.clients as usize
+    }
+
+    /// How many proxies the pool has: 1 to 64.
+    pub fn proxies(&self) -> usize
+        ensures proxies { result ≡ self.now.proxies }
+        ensures script { IsPoolScript self.now }
+    {
+        self.proxies
+    }
+
+    /// How many clients the pool has: 1 to 1024, of the numbers from 0 on.
+    pub fn all_clients(&self) -> usize
+        ensures clients { result ≡ clients_of self.now }
+        ensures script { IsPoolScript self.now }
+    {
+        self.clients as usize * self.proxies
     }
 
     /// How many servers it begins with: 1 to 64.
@@ -165,28 +189,53 @@ impl PoolScript {
 
     /// Adds an event's line, if it is one, and returns whether it did.
     fn add_line(&mut self, alloc: Global, line: &[u8]) -> Result<bool, SimError>
-        ensures read { IfOk result (λ more. Gives more (with_line self.old (line_of self.old.clients (servers_of self.old) line.now)) self.new) }
+        ensures read { IfOk result (λ more. Gives more (with_line self.old (line_of (clients_of self.old) (servers_of self.old) (known_of self.old) line.now)) self.new) }
         ensures only_memory { IsOkUnless result SimError.Memory }
     {
         let addresses = self.addresses.as_slice();
-        let Some(found) = read_line(alloc, self.clients, addresses, line)? else {
+        let known = self.known.as_slice();
+        let clients = self.clients * self.proxies as u64;
+        let Some(found) = read_line(alloc, clients, addresses, known, line)? else {
             return Ok(false);
         };
         self.follow(found)?;
         Ok(true)
     }
 
-    /// Adds the meaning of a line. If a server joins, its address is added too.
+    /// Adds the meaning of a line. If a server joins, its address is added too, and its proxy knows one more.
     fn follow(&mut self, line: PoolLine) -> Result<(), AllocError>
         requires moment { HasMoment line (2 ^ 63) }
         ensures followed { OnOk result (self.new ≡ followed self.old line) }
     {
         self.lines.reserve(1)?;
-        if let PoolLine::Join(address) = &line {
-            self.addresses.push(address.copy()?)?;
-        }
+        add_joined(&mut self.addresses, &line)?;
+        count_known(&mut self.known, &line);
         self.lines.push(line).unwrap();
         Ok(())
+    }
+}
+
+/// Adds the address of a new server that joins by a line.
+fn add_joined(addresses: &mut Vec<Address>, line: &PoolLine) -> Result<(), AllocError>
+    ensures joined { OnOk result (addresses.new.items ≡ addresses.old.items ++ joined_by line.now) }
+    ensures err { OnErr result (addresses.new.items ≡ addresses.old.items) }
+{
+    if let PoolLine::Join(_, address) = line {
+        addresses.push(address.copy()?)?;
+    }
+    Ok(())
+}
+
+/// Counts one more server for the proxy that knows it after a line.
+fn count_known(known: &mut Vec<usize>, line: &PoolLine)
+    requires few { (proxy : ℕ) → slice_index_or known.old.items proxy 0 + 1 < 2 ^ 64 }
+    ensures { known.new.items ≡ known_after known.old.items line.now }
+{
+    let (PoolLine::Join(proxy, _) | PoolLine::Learn(proxy, _)) = line else {
+        return;
+    };
+    if *proxy < known.len() {
+        known[*proxy] += 1;
     }
 }
 
@@ -252,37 +301,58 @@ fn read_head(alloc: Global, line: &[u8]) -> Result<Option<PoolScript>, SimError>
     ensures head { IfOk result (λ head. head ≡ head_of line.now) }
     ensures only_memory { IsOkUnless result SimError.Memory }
 {
-    let Some((servers, clients, budget, items)) = read_limits(line) else {
+    let Some((servers, clients, budget, items, proxies)) = read_limits(line) else {
         return Ok(None);
     };
     let addresses = first_addresses(alloc, servers)?;
+    let known = vec![in alloc; servers as usize; proxies]?;
     Ok(Some(PoolScript {
         servers: servers as usize,
         clients,
+        proxies,
         budget,
         items,
         points: Vec::new(alloc),
         losses: None,
         lines: Vec::new(alloc),
         addresses,
+        known,
     }))
 }
 
-/// The servers, clients, budget and items of a first line.
+/// The servers, clients of each proxy, budget, items and proxies of a first line.
 #[tactic(auto, unfolding(crate::specs::PoolScripts::limits_of))]
-fn read_limits(line: &[u8]) -> Option<(u64, u64, u64, usize)>
+fn read_limits(line: &[u8]) -> Option<(u64, u64, u64, usize, usize)>
     ensures limits { result ≡ limits_of line.now }
     ensures servers { IfSome result (λ limits. (1 ≤ limits.0) × (limits.0 ≤ 64)) }
-    ensures clients { IfSome result (λ limits. (1 ≤ limits.1) × (limits.1 ≤ 1024)) }
+    ensures clients { IfSome result (λ limits. (1 ≤ limits.1) × (limits.1 * limits.4 ≤ 1024)) }
     ensures bounds { IfSome result (λ limits. IsWithinBounds limits.2 limits.3) }
+    ensures proxies { IfSome result (λ limits. (1 ≤ limits.4) × (limits.4 ≤ 64)) }
 {
     let (command, rest) = cut_at_space(line)?;
     let (servers, rest) = cut_at_space(rest)?;
     let (clients, rest) = cut_at_space(rest)?;
-    let (budget, items) = cut_at_space(rest)?;
+    let (budget, rest) = cut_at_space(rest)?;
     let servers = read_limit(servers, SERVER_LIMIT as u64)?;
     let clients = read_limit(clients, MAX_CLIENTS)?;
     let budget = read_limit(budget, MAX_BUDGET)?;
+    let (items, proxies) = read_last_limits(rest)?;
+    let fits = command == b"pool".as_slice() && clients * proxies as u64 <= MAX_CLIENTS;
+    fits.then_some((servers, clients, budget, items, proxies))
+}
+
+/// The items and proxies of the last words of a first line: one proxy if the line does not say.
+#[tactic(auto, unfolding(crate::specs::PoolScripts::last_limits_of))]
+fn read_last_limits(text: &[u8]) -> Option<(usize, usize)>
+    ensures limits { result ≡ last_limits_of text.now }
+    ensures items { IfSome result (λ limits. (1 ≤ limits.0) × (limits.0 ≤ 2 ^ 24)) }
+    ensures proxies { IfSome result (λ limits. (1 ≤ limits.1) × (limits.1 ≤ 64)) }
+{
+    let (items, proxies) = match cut_at_space(text) {
+        Some((items, proxies)) => (items, proxies),
+        None => (text, b"1".as_slice()),
+    };
     let items = read_limit(items, MAX_ITEMS as u64)?;
-    (command == b"pool".as_slice()).then_some((servers, clients, budget, items as usize))
+    let proxies = read_limit(proxies, MAX_PROXIES)?;
+    Some((items as usize, proxies as usize))
 }

@@ -26,7 +26,7 @@ pub fn text_of_pool_script<S: ScriptStore>(alloc: Global, input: &[u8]) -> Resul
     let script = read_pool_script(alloc, input)?;
     let played = played_script::<S>(alloc, &script)?;
     let mut text = Vec::new(alloc);
-    push_output_lines(&played.world, script.clients(), &mut text)?;
+    push_output_lines(&played.world, script.all_clients(), &mut text)?;
     Ok(text)
 }
 
@@ -41,7 +41,7 @@ pub fn account_of_pool_script<S: ScriptStore>(
 {
     let script = read_pool_script(alloc, input)?;
     let played = played_script::<S>(alloc, &script)?;
-    let (clients, servers) = (script.clients(), script.server_count());
+    let (clients, servers) = (script.all_clients(), script.server_count());
     let mut text = Vec::new(alloc);
     push_output_lines(&played.world, clients, &mut text)?;
     push_account(alloc, &played, clients, servers, &mut text)?;

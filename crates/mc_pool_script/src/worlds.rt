@@ -18,11 +18,13 @@ pub fn opened_world<S: ScriptStore>(
     ensures account { IfOk result GivesAccount }
     ensures only_memory { IsOkUnless result SimError.Memory }
 {
-    let (clients, budget, items) = (script.clients(), script.budget(), script.items());
+    let (budget, items) = (script.budget(), script.items());
+    let clients = vec![in alloc; script.clients(); script.proxies()]?;
     let losses = script.losses();
     let ring = script.ring(alloc)?;
     let stores = empty_stores(alloc, script.servers(), items)?;
-    let Ok(world) = World::with_losses(alloc, ring, losses, clients, budget, items, stores) else {
+    let clients = clients.as_slice();
+    let Ok(world) = World::with_proxies(alloc, ring, losses, clients, budget, items, stores) else {
         return Err(SimError::Memory);
     };
     Ok(world)

@@ -19,6 +19,8 @@ mod marks;
 #[cfg(test)]
 mod pools;
 #[cfg(test)]
+mod proxies;
+#[cfg(test)]
 mod proxy_pumps;
 #[cfg(test)]
 mod requests;

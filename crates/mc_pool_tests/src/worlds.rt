@@ -6,6 +6,7 @@ ghost use Rattle.std.specs.Prelude.{◌<◌, ◌^◌};
 ghost use Rattle.mc_pool_script.specs.PoolLines.{HasMoment};
 
 use mc_pool_script::{PoolLine, PoolScript, read_pool_script};
+use mc_ring::Address;
 use mc_script::SimError;
 use mc_server_tests::again;
 use mc_store::ListStore;
@@ -14,13 +15,13 @@ use mc_world::{Event, Step, World, WorldError};
 use std::alloc::Global;
 use std::test::Fail;
 
-/// A script of one client, and the bytes that may have been emitted to it at the end: with ample memory, or with one store refused.
+/// A script, and the bytes that may have been emitted to its first client at the end: with ample memory, or with one store refused.
 struct Script {
     text: &'static [u8],
     outputs: &'static [&'static [u8]],
 }
 
-const SCRIPTS: [Script; 5] = [
+const SCRIPTS: [Script; 6] = [
     // a command that never arrives, one that is served though its reply is lost, one that is served late, and one that arrives
     // after the end of its generation and is dropped
     Script {
@@ -180,6 +181,30 @@ drain 102
             b"SERVER_ERROR out of memory storing object\r\nSERVER_ERROR link lost\r\nSTORED\r\nVALUE n 0 1\r\n5\r\nEND\r\n",
         ],
     },
+    // two proxies: a server joins at one and the other learns it, and that one restarts, with a command that its server executes all the same
+    Script {
+        text: b"pool 1 1 67108864 1000 2
+point 00000000 0
+join 1 a:1
+join a:1
+back 1
+bytes 0 set n 0 0 1\\r\\n1\\r\\n
+drain 100
+bytes 1 incr n 1\\r\\n
+turn 1
+toserver 1:0 1 all
+toserver 1:1 1 all
+proxyrestart 1
+serve 1:0 1 101
+serve 1:1 1 101
+bytes 0 get n\\r\\n
+drain 102
+",
+        outputs: &[
+            b"STORED\r\nVALUE n 0 1\r\n2\r\nEND\r\n",
+            b"SERVER_ERROR out of memory storing object\r\nEND\r\n",
+        ],
+    },
 ];
 
 fn read(alloc: Global, text: &[u8]) -> Result<PoolScript, SimError> {
@@ -190,16 +215,18 @@ fn opened(alloc: Global, script: &PoolScript) -> Result<World<ListStore>, WorldE
     again!(opened_once(alloc, script))
 }
 
-/// The world that a script begins with.
+/// The world that a script begins with: of one proxy, or of several and one server.
 fn opened_once(alloc: Global, script: &PoolScript) -> Result<World<ListStore>, WorldError> {
     let ring = script.ring(alloc).map_err(|_| WorldError::Memory)?;
-    World::new(
-        alloc,
-        ring,
-        script.clients(),
-        script.budget(),
-        script.items(),
-    )
+    let (clients, budget, items) = (script.clients(), script.budget(), script.items());
+    if script.proxies() == 1 {
+        return World::new(alloc, ring, clients, budget, items);
+    }
+    let mut stores = Vec::new(alloc);
+    stores.push(ListStore::new(alloc))?;
+    let clients = vec![in alloc; clients; script.proxies()]?;
+    let clients = clients.as_slice();
+    World::with_proxies(alloc, ring, script.losses(), clients, budget, items, stores)
 }
 
 fn step(world: &mut World<ListStore>, event: &Event<Block>) -> Result<Step, WorldError> {
@@ -212,12 +239,55 @@ fn drain(world: &mut World<ListStore>, moment: u64) -> Result<(), WorldError>
     again!(world.drain(moment))
 }
 
+fn join(
+    alloc: Global,
+    world: &mut World<ListStore>,
+    proxy: usize,
+    address: &Address,
+) -> Result<usize, WorldError> {
+    again!(join_once(alloc, world, proxy, address))
+}
+
+/// A server of this address joins at a proxy.
+fn join_once(
+    alloc: Global,
+    world: &mut World<ListStore>,
+    proxy: usize,
+    address: &Address,
+) -> Result<usize, WorldError> {
+    match world.join_server_at(proxy, address.copy()?, ListStore::new(alloc)) {
+        Ok(place) => Ok(place),
+        Err((cause, _)) => Err(cause),
+    }
+}
+
+fn learn(
+    world: &mut World<ListStore>,
+    proxy: usize,
+    address: &Address,
+) -> Result<usize, WorldError> {
+    again!(learn_once(world, proxy, address))
+}
+
+/// A proxy learns the server of this address.
+fn learn_once(
+    world: &mut World<ListStore>,
+    proxy: usize,
+    address: &Address,
+) -> Result<usize, WorldError> {
+    world.learn_server(proxy, address.copy()?)
+}
+
+fn restart_proxy(world: &mut World<ListStore>, proxy: usize) -> Result<(), WorldError> {
+    again!(world.restart_proxy(proxy))
+}
+
 fn put_out(world: &World<ListStore>) -> Result<Vec<u8>, WorldError> {
     again!(world.put_out(0))
 }
 
 /// Plays one line.
-fn play(world: &mut World<ListStore>, line: &PoolLine) -> Result<(), Fail>
+fn play(alloc: Global, world: &mut World<ListStore>, line: &PoolLine) -> Result<(), Fail>
     requires { HasMoment line.now (2 ^ 63) }
 {
     match line {
@@ -225,17 +295,23 @@ fn play(world: &mut World<ListStore>, line: &PoolLine) -> Result<(), Fail>
             step(world, event)?;
         }
         PoolLine::Drain(moment) => drain(world, *moment)?,
-        PoolLine::Join(_) => return Err(Fail::from("a server is to join")),
+        PoolLine::Join(proxy, address) => {
+            join(alloc, world, *proxy, address)?;
+        }
+        PoolLine::Learn(proxy, address) => {
+            learn(world, *proxy, address)?;
+        }
+        PoolLine::ProxyRestart(proxy) => restart_proxy(world, *proxy)?,
         PoolLine::Restart(_) => return Err(Fail::from("a server is to restart")),
     }
     Ok(())
 }
 
-/// All bytes that were emitted to the client of a script.
+/// All bytes that were emitted to the first client of a script.
 fn emitted_bytes(alloc: Global, script: &PoolScript) -> Result<Vec<u8>, Fail> {
     let mut world = opened(alloc, script)?;
     for line in script.lines() {
-        play(&mut world, line)?;
+        play(alloc, &mut world, line)?;
     }
     Ok(put_out(&world)?)
 }

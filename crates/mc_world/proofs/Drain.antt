@@ -7,3 +7,4 @@ pub mod LessLemmas
 pub mod DrainLemmas
 pub mod RestLemmas
 pub mod RoundLemmas
+pub mod EndLemmas

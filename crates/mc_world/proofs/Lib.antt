@@ -1,3 +1,4 @@
+pub mod Homes
 pub mod SiteEvents
 pub mod PoolEvents
 pub mod Log

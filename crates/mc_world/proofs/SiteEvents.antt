@@ -1,5 +1,6 @@
--- A server of a pool, its link and its ways.
+-- A server of a pool, the links to it and its ways.
 pub mod CountLemmas
+pub mod EachLemmas
 pub mod SiteLemmas
 pub mod MoveLemmas
 pub mod LossLemmas

@@ -10,7 +10,7 @@ use Rattle.mc_world.specs.declared.events.Event.TheVariants.{ServerTurn}
 -- an event that a drain at a moment may do: one of the pool itself, in which a server takes its requests at that
 -- moment
 abbrev pub is_of_drain : ℕ → Event (List ℕ) → Bool
-is_of_drain moment (ServerTurn server generation at) = at == moment
+is_of_drain moment (ServerTurn proxy server generation at) = at == moment
 is_of_drain moment other = is_inner other
 
 -- events are done in sequence

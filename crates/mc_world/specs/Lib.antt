@@ -1,4 +1,5 @@
 pub mod Bare
+pub mod Homes
 pub mod Logs
 pub mod WorldState
 pub mod Accounts
@@ -19,6 +20,7 @@ pub mod Openings
 pub mod Steps
 pub mod Quiet
 pub mod Drains
+pub mod ProxyRestarts
 pub mod WorkLeft
 pub mod Acts
 pub mod Rounds

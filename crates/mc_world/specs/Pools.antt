@@ -7,27 +7,42 @@ use Rattle.mc_cache.specs.CacheState.{CacheState}
 use Rattle.mc_server.specs.ServerState.{connection_at, output_of}
 use Rattle.mc_proxy.specs.Emits.{IsEmit}
 use Rattle.mc_proxy.specs.Sending.{at_once}
-use Rattle.mc_proxy.specs.SessionState.{link_at, with_link}
+use Rattle.mc_proxy.specs.SessionState.{with_link}
 use Rattle.mc_proxy.specs.SessionTurns.{IsFed, IsTurn}
 use Rattle.mc_proxy.specs.declared.session_turns.Emit.TheVariants as emits
 use Rattle.mc_proxy.specs.declared.session_turns.SessionTurn.TheVariants as turns
 use Rattle.mc_proxy.specs.LinkTurns.{Answers, lost_at}
-use Rattle.mc_proxy.specs.ProxyState.{sent_by, session_at, without}
+use Rattle.mc_proxy.specs.ProxyState.{ProxyState, sent_by, without}
 use Rattle.mc_proxy.specs.Turns.{Alone, Steps}
 use Rattle.mc_account.specs.Lanes.{Lane}
 use Rattle.mc_account.specs.Orders.{Order, TakenRequest}
-use Rattle.mc_account.specs.Holds.{ProxyHolds}
+use Rattle.mc_account.specs.Holds.{ProxyHolds, changed}
 use Rattle.mc_world.specs.Happens.{Arrives, ArrivesLate, ComesBack, Ends, Enters, EntersLate, returned, taken_one}
 use Rattle.mc_world.specs.Sites.{SiteHolds}
-use Rattle.mc_world.specs.WorldState.{PoolState, SiteState}
+use Rattle.mc_world.specs.Homes.{of_proxy, own_of}
+use Rattle.mc_world.specs.WorldState.{PoolState, SiteState, home_of, link_of, proxy_at, proxy_of, session_of, way_by, with_proxy}
+
+-- a proxy is in this state now; the others, and which proxy each client has, are as they were
+pub record ProxyBecomes (proxy : ℕ) (state : ProxyState) (old new : PoolState) : Type 0 where
+  pub proxies : new.proxies ≡ with_proxy proxy state old.proxies
+  pub homes : new.homes ≡ old.homes
+
+-- all proxies, and which proxy each client has, are as they were
+pub record ProxiesStay (old new : PoolState) : Type 0 where
+  pub proxies : new.proxies ≡ old.proxies
+  pub homes : new.homes ≡ old.homes
 
 -- a client's bytes are fed to its session; a request of a client is taken; one of its answers is emitted
 pub record HearsClient (client : ℕ) (piece : List ℕ) (old new : PoolState) : Type 0 where
-  pub steps : Steps client old.proxy new.proxy (Alone (IsFed piece))
+  pub now : ProxyState
+  pub steps : Steps client (proxy_of old client) now (Alone (IsFed piece))
+  pub proxy : ProxyBecomes (home_of old client) now old new
   pub sites : new.sites ≡ old.sites
 
 pub record TakesRequest (client : ℕ) (old new : PoolState) : Type 0 where
-  pub steps : Steps client old.proxy new.proxy (IsTurn client turns.Took old.proxy.ring old.proxy.losses)
+  pub now : ProxyState
+  pub steps : Steps client (proxy_of old client) now (IsTurn client turns.Took (proxy_of old client).ring (proxy_of old client).losses)
+  pub proxy : ProxyBecomes (home_of old client) now old new
   pub sites : new.sites ≡ old.sites
 
 -- the request that was taken, as the order has it
@@ -36,89 +51,96 @@ asked_by {client = client} {old = old} taking = record {
   session = client;
   request = taking.steps.before.taken;
   what = taking.steps.step.0;
-  ring = old.proxy.ring;
-  losses = old.proxy.losses;
-  outcomes = map (at_once old.proxy.links) (route_of_taken old.proxy.ring taking.steps.step.0);
+  ring = (proxy_of old client).ring;
+  losses = (proxy_of old client).losses;
+  outcomes = map (at_once (proxy_of old client).links) (route_of_taken (proxy_of old client).ring taking.steps.step.0);
 }
 
 pub record PutsAnswer (client : ℕ) (old new : PoolState) : Type 0 where
-  pub steps : Steps client old.proxy new.proxy (Alone (IsEmit emits.Done))
+  pub now : ProxyState
+  pub steps : Steps client (proxy_of old client) now (Alone (IsEmit emits.Done))
+  pub proxy : ProxyBecomes (home_of old client) now old new
   pub sites : new.sites ≡ old.sites
 
 -- a client takes the first bytes that were emitted to it; a client goes
 pub record TakesBytes (client count : ℕ) (old new : PoolState) : Type 0 where
-  pub proxy : new.proxy ≡ sent_by client count (session_at old.proxy client) old.proxy
+  pub proxy : ProxyBecomes (home_of old client) (sent_by client count (session_of old client) (proxy_of old client)) old new
   pub sites : new.sites ≡ old.sites
 
 pub record ClientGoes (client : ℕ) (old new : PoolState) : Type 0 where
-  pub proxy : new.proxy ≡ record old.proxy { sessions = without client old.proxy.sessions }
-  pub not_open : session_at new.proxy client ≡ None
+  pub proxy : ProxyBecomes (home_of old client) (record (proxy_of old client) { sessions = without client (proxy_of old client).sessions }) old new
+  pub not_open : session_of new client ≡ None
   pub sites : new.sites ≡ old.sites
 
--- something happens at the site of a place, whose link is up: these are the site and the proxy after it
-pub record AtSite (place : ℕ) (old new : PoolState) : Type 0 where
+-- something happens at the site of a place, to which this proxy's link is up: these are the site and the site after it
+pub record AtSite (proxy place : ℕ) (old new : PoolState) : Type 0 where
   pub site : SiteState
   pub now : SiteState
   pub at : slice_get old.sites place ≡ Some site
-  pub up : (link_at old.proxy.links place).up ≡ true
+  pub up : (link_of old proxy place).up ≡ true
   pub sites : new.sites ≡ slice_set old.sites place now
 
--- the first bytes that the link has for its server arrive there
-pub record ReachesServer (place count : ℕ) (old new : PoolState) : Type 0 where
-  pub there : AtSite place old new
-  pub arrives : Arrives (take count (link_at old.proxy.links place).output) there.site there.now
-  pub proxy : new.proxy ≡ record old.proxy {
-    links = with_link place (record (link_at old.proxy.links place) { output = drop count (link_at old.proxy.links place).output }) old.proxy.links;
-  }
+-- a proxy whose link to a place is in this state now
+abbrev pub relinked : ℕ → LinkState → ProxyState → ProxyState
+relinked place link p = record p { links = with_link place link p.links }
+
+-- the first bytes that a link of the proxy of this number has for its server arrive there
+pub record ReachesServer (number place count : ℕ) (old new : PoolState) : Type 0 where
+  pub there : AtSite number place old new
+  pub arrives : Arrives number (take count (link_of old number place).output) there.site there.now
+  pub proxy : ProxyBecomes number
+      (relinked place (record (link_of old number place) { output = drop count (link_of old number place).output }) (proxy_at old number)) old new
 
 -- a server takes a request of the living generation: the first pending command that it has not taken
-pub record ServerTakes (place moment : ℕ) (old new : PoolState) : Type 0 where
-  pub there : AtSite place old new
+pub record ServerTakes (proxy place moment : ℕ) (old new : PoolState) : Type 0 where
+  pub there : AtSite proxy place old new
   pub tag : Tag
-  pub next : slice_get (map (λ waiting. waiting.1) (link_at old.proxy.links place).waiting) there.site.ahead ≡ Some tag
-  pub enters : Enters moment tag there.site there.now
-  pub proxy : new.proxy ≡ old.proxy
+  pub next : slice_get (map (λ waiting. waiting.1) (link_of old proxy place).waiting) (way_by there.site proxy).ahead ≡ Some tag
+  pub enters : Enters proxy moment tag there.site there.now
+  pub proxies : ProxiesStay old new
 
 -- the first bytes of its connection's output arrive at the proxy
-pub record ReachesProxy (place count : ℕ) (old new : PoolState) : Type 0 where
-  pub there : AtSite place old new
-  pub leaves : there.now ≡ returned count there.site
-  pub proxy : new.proxy ≡ record old.proxy {
-    links = with_link place (record (link_at old.proxy.links place) {
-      unread = (link_at old.proxy.links place).unread ++ take count (output_of (connection_at there.site.server there.site.connection));
-    }) old.proxy.links;
-  }
+pub record ReachesProxy (number place count : ℕ) (old new : PoolState) : Type 0 where
+  pub there : AtSite number place old new
+  pub leaves : there.now ≡ returned number count there.site
+  pub proxy : ProxyBecomes number
+      (relinked place (record (link_of old number place) {
+        unread = (link_of old number place).unread ++ take count (output_of (connection_at there.site.server (way_by there.site number).connection));
+      }) (proxy_at old number)) old new
 
 -- the proxy takes a reply
-pub record TakesReply (place : ℕ) (old new : PoolState) : Type 0 where
-  pub there : AtSite place old new
-  pub answers : Answers place old.proxy new.proxy
-  pub counts : there.now ≡ taken_one there.site
+pub record TakesReply (number place : ℕ) (old new : PoolState) : Type 0 where
+  pub there : AtSite number place old new
+  pub now : ProxyState
+  pub answers : Answers place (proxy_at old number) now
+  pub counts : there.now ≡ taken_one number there.site
+  pub proxy : ProxyBecomes number now old new
 
--- a site whose link is lost: the bytes go on their way, and the tags of the commands that the server has not taken are kept with
+-- a site whose link of a proxy is lost: the bytes go on their way, and the tags of the commands that the server has not taken are kept with
 -- them
-abbrev pub cut_off : LinkState → SiteState → SiteState
-cut_off link site = record site {
+abbrev pub cut_off : ℕ → LinkState → SiteState → SiteState
+cut_off proxy link site = record site {
   lost = site.lost ++ (record {
-    generation = site.generation;
-    connection = site.connection;
+    proxy = proxy;
+    generation = (way_by site proxy).generation;
+    connection = (way_by site proxy).connection;
     going = link.output;
-    untaken = drop site.ahead (map (λ waiting. waiting.1) link.waiting);
+    untaken = drop (way_by site proxy).ahead (map (λ waiting. waiting.1) link.waiting);
   }) ∷ [];
 }
 
-pub record LosesLink (place : ℕ) (old new : PoolState) : Type 0 where
-  pub there : AtSite place old new
-  pub cut : there.now ≡ cut_off (link_at old.proxy.links place) there.site
-  pub proxy : new.proxy ≡ lost_at place old.proxy
+pub record LosesLink (number place : ℕ) (old new : PoolState) : Type 0 where
+  pub there : AtSite number place old new
+  pub cut : there.now ≡ cut_off number (link_of old number place) there.site
+  pub proxy : ProxyBecomes number (lost_at place (proxy_at old number)) old new
 
--- something happens at the site of a place, and nothing to the proxy
+-- something happens at the site of a place, and nothing to the proxies
 pub record AtSiteAlone (place : ℕ) (old new : PoolState) : Type 0 where
   pub site : SiteState
   pub now : SiteState
   pub at : slice_get old.sites place ≡ Some site
   pub sites : new.sites ≡ slice_set old.sites place now
-  pub proxy : new.proxy ≡ old.proxy
+  pub proxies : ProxiesStay old new
 
 -- bytes of a lost generation arrive at its server; the server takes a request of it; and the server sees its end
 pub record LateBytes (place i count : ℕ) (old new : PoolState) : Type 0 where
@@ -133,20 +155,27 @@ pub record EndSeen (place i : ℕ) (old new : PoolState) : Type 0 where
   pub there : AtSiteAlone place old new
   pub ends : Ends i there.site there.now
 
--- a link comes up: its server has admitted a connection for it
-pub record LinkReturns (place : ℕ) (old new : PoolState) : Type 0 where
+-- a proxy's link comes up: its server has admitted a connection for it
+pub record LinkReturns (number place : ℕ) (old new : PoolState) : Type 0 where
   pub site : SiteState
   pub now : SiteState
   pub at : slice_get old.sites place ≡ Some site
-  pub inside : place < length old.proxy.links
-  pub can : can_come_back (link_at old.proxy.links place) ≡ true
-  pub back : ComesBack ((link_at old.proxy.links place).generation + 1) site now
+  pub inside : place < length (proxy_at old number).links
+  pub can : can_come_back (link_of old number place) ≡ true
+  pub back : ComesBack number ((link_of old number place).generation + 1) site now
   pub sites : new.sites ≡ slice_set old.sites place now
-  pub proxy : new.proxy ≡ record old.proxy { links = with_link place (up_link ((link_at old.proxy.links place).generation + 1)) old.proxy.links }
+  pub proxy : ProxyBecomes number (relinked place (up_link ((link_of old number place).generation + 1)) (proxy_at old number)) old new
 
--- The invariant of a pool: its proxy, and each of its servers with its ways, agree with an order of requests and the lanes of its
--- links.
-pub record PoolHolds (opening : CacheState) (texts sent : ℕ → List ℕ) (order : Order) (lanes : ℕ → Lane) (pool : PoolState) : Type 0 where
-  pub proxy : ProxyHolds texts sent order lanes pool.proxy
-  pub sites : (place : ℕ) (site : SiteState) → slice_get pool.sites place ≡ Some site → SiteHolds place order (lanes place) (link_at pool.proxy.links place) opening site
+-- lanes by proxy and place, with another of one link
+abbrev pub relaned : ℕ → ℕ → Lane → (ℕ → ℕ → Lane) → ℕ → ℕ → Lane
+relaned proxy place lane lanes = changed proxy (changed place lane (lanes proxy)) lanes
+
+-- The invariant of a pool: its proxies, and each of its servers with its ways, agree with an order of requests and the lanes of their links, by proxy
+-- and place.
+pub record PoolHolds (opening : CacheState) (texts sent : ℕ → List ℕ) (order : Order) (lanes : ℕ → ℕ → Lane) (pool : PoolState) : Type 0 where
+  pub proxies : (proxy : ℕ) → ProxyHolds (own_of (home_of pool) proxy texts) (own_of (home_of pool) proxy sent) (of_proxy (home_of pool) proxy order)
+      (lanes proxy) (proxy_at pool proxy)
+  pub sites : (place : ℕ) (site : SiteState) → slice_get pool.sites place ≡ Some site
+      → SiteHolds (home_of pool) place order (λ proxy. lanes proxy place) (λ proxy. link_of pool proxy place) opening site
+  pub ways : (place : ℕ) (site : SiteState) → slice_get pool.sites place ≡ Some site → length site.ways ≡ length pool.proxies
   pub bytes : (client : ℕ) → All (λ b. b < 256) (texts client)

@@ -19,6 +19,10 @@ EachClient Does old new = InOrder Does (length old.clients) old new
 abbrev pub EachServer : (ℕ → CourseState → CourseState → Type 0) → CourseState → CourseState → Type 0
 EachServer Does old new = InOrder Does (length old.pool.sites) old new
 
+-- for each proxy each of its servers
+abbrev pub EachLink : (ℕ → ℕ → CourseState → CourseState → Type 0) → CourseState → CourseState → Type 0
+EachLink Does old new = InOrder (λ proxy. EachServer (Does proxy)) (length old.pool.proxies) old new
+
 -- this is done repeatedly, this number of times, until it is over
 abbrev pub Until : (CourseState → Type 0) → (CourseState → CourseState → Type 0) → CourseState → CourseState → Type 0
 Until Over Does old new = (times : ℕ) × InOrder (λ time. Does) times old new × Over new
@@ -40,17 +44,18 @@ abbrev pub Alternates : ℕ → Act → Act → CourseState → CourseState → 
 Alternates moment one other old new =
     Until (λ c. IsIdle moment c.pool one × IsIdle moment c.pool other) (Then (Repeats moment one) (Repeats moment other)) old new
 
--- A round. For each client the proxy takes every request that it can. Each server gets all bytes and takes every request that it can, in
--- alternation; then the proxy gets all its bytes and takes all replies, in alternation. Each client is sent every answer that is known and
+-- A round. For each client its proxy takes every request that it can. On each proxy's link to each server, the server gets all bytes and takes every
+-- request that it can, in alternation; then the proxy gets all its bytes and takes all replies, in alternation. Each client is sent every answer that is known and
 -- takes all bytes, in alternation.
 pub record IsRound (moment : ℕ) (old new : CourseState) : Type 0 where
   pub taken : CourseState
   pub served : CourseState
   pub requests : EachClient (λ client. Repeats moment (TakeRequest client)) old taken
-  pub servers : EachServer (λ place. Then (Alternates moment (ReachServer place) (Serve place)) (Alternates moment (ReachProxy place) (TakeReply place))) taken served
+  pub servers : EachLink (λ proxy place. Then (Alternates moment (ReachServer proxy place) (Serve proxy place))
+      (Alternates moment (ReachProxy proxy place) (TakeReply proxy place))) taken served
   pub answers : EachClient (λ client. Alternates moment (PutAnswer client) (TakeBytes client)) served new
 
--- each server sees the ends of its lost generations, which rise, from the first on
+-- each server sees the ends of its lost generations, which rise for each proxy, from the first on
 pub record SeesEnds (moment : ℕ) (old new : CourseState) : Type 0 where
   pub rising : (place : ℕ) (site : SiteState) → slice_get old.pool.sites place ≡ Some site → IsRising site.lost
   pub ends : EachServer (λ place. Repeats moment (SeeEnd place)) old new

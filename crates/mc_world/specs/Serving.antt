@@ -13,8 +13,7 @@ use Rattle.mc_link.specs.declared.turns.Tag.{Tag}
 use Rattle.mc_cache_laws.specs.GoodCaches.{IsGoodCache}
 use Rattle.mc_server.specs.ServerState.{ConnectionState, ServerState, connection_at}
 use Rattle.mc_server.specs.Turns.{waiting_of}
-use Rattle.mc_proxy.specs.SessionState.{link_at}
-use Rattle.mc_world.specs.WorldState.{PoolState, SiteState, StaleState}
+use Rattle.mc_world.specs.WorldState.{PoolState, SiteState, StaleState, WayState, link_of, proxy_at, way_by}
 
 -- a request is a command as a proxy encodes it
 abbrev pub IsSpelled : Parsed → Type 0
@@ -28,19 +27,24 @@ pub record ServesProxy (number : ℕ) (server : ServerState) : Type 0 where
   pub spelled : (what : Parsed) (after : ReaderState) → IsFirst end.reader what after → IsSpelled what
   pub good_cache : IsGoodCache server.cache
 
--- A site, whose link this is, serves on each generation. If a whole request has arrived, its tag is known. The server's bytes are no
+-- A site serves a proxy, whose link this is, on its living generation. If a whole request has arrived, its tag is known. The server's bytes are no
 -- protocol violation, and each reply is to a command that was taken.
-pub record SiteServes (link : LinkState) (site : SiteState) : Type 0 where
-  pub generation : site.generation ≡ link.generation
-  pub living : link.up ≡ true → ServesProxy site.connection site.server
-  pub waits : link.up ≡ true → 0 < length (waiting_of (connection_at site.server site.connection)) → site.ahead < length link.waiting
+pub record WayServes (link : LinkState) (way : WayState) (server : ServerState) : Type 0 where
+  pub generation : way.generation ≡ link.generation
+  pub living : link.up ≡ true → ServesProxy way.connection server
+  pub waits : link.up ≡ true → 0 < length (waiting_of (connection_at server way.connection)) → way.ahead < length link.waiting
   pub never_strange : link.up ≡ true → HasStrange link.waiting link.unread → ⊥
-  pub replied : (tag : Tag) (reply : AReply (List ℕ)) (after : LinkState) → link.up ≡ true → Takes link tag reply after → 1 ≤ site.ahead
+  pub replied : (tag : Tag) (reply : AReply (List ℕ)) (after : LinkState) → link.up ≡ true → Takes link tag reply after → 1 ≤ way.ahead
+
+-- A site, whose proxies have these links, serves on each generation, also on a lost one.
+pub record SiteServes (links : ℕ → LinkState) (site : SiteState) : Type 0 where
+  pub ways : (proxy : ℕ) → WayServes (links proxy) (way_by site proxy) site.server
   pub lost : (i : ℕ) (way : StaleState) → slice_get site.lost i ≡ Some way → ServesProxy way.connection site.server
   pub untaken : (i : ℕ) (way : StaleState) → slice_get site.lost i ≡ Some way → 0 < length (waiting_of (connection_at site.server way.connection))
       → 0 < length way.untaken
 
--- each site of a pool serves, one for each link
+-- each site of a pool serves, and has a way for each proxy; a proxy has no more links than there are sites
 pub record PoolServes (pool : PoolState) : Type 0 where
-  pub sited : length pool.sites ≡ length pool.proxy.links
-  pub sites : (place : ℕ) (site : SiteState) → slice_get pool.sites place ≡ Some site → SiteServes (link_at pool.proxy.links place) site
+  pub sited : (proxy : ℕ) → length (proxy_at pool proxy).links ≤ length pool.sites
+  pub ways : (place : ℕ) (site : SiteState) → slice_get pool.sites place ≡ Some site → length site.ways ≡ length pool.proxies
+  pub sites : (place : ℕ) (site : SiteState) → slice_get pool.sites place ≡ Some site → SiteServes (λ proxy. link_of pool proxy place) site

@@ -12,24 +12,25 @@ use Rattle.mc_account.specs.Orders.{Order, Tagged, commands_to}
 use Rattle.mc_history.specs.Generations.{is_good}
 use Rattle.mc_history.specs.Made.{AreMade, Each, Made, commands_on, entry_of, taking_of}
 use Rattle.mc_history.specs.Named.{AreReplied, IsNamed, tags_made, tags_of, times}
-use Rattle.mc_world.specs.WorldState.{SiteState, StaleState}
+use Rattle.mc_world.specs.Homes.{Homes, of_proxy}
+use Rattle.mc_world.specs.WorldState.{SiteState, StaleState, way_by}
 
 -- how often a tag is among the commands of lost generations that were not taken
 abbrev pub untaken_times : Tag → List StaleState → ℕ
 untaken_times tag [] = 0
 untaken_times tag (way ∷ ways) = times tag way.untaken + untaken_times tag ways
 
--- The living generation. Its connection is open. The bytes that left one end arrived at the other, both ways. The server took the first
+-- The living generation of a proxy. Its connection is open. The bytes that left one end arrived at the other, both ways. The server took the first
 -- of the commands that were sent, and the proxy took the replies to the first of these. No command was taken, or is to be taken, more
 -- often than it was sent, in any life.
-pub record IsLiving (place : ℕ) (order : Order) (lane : Lane) (all made : List Made) (texts sent : ℕ → List ℕ) (site : SiteState) : Type 0 where
+pub record IsLiving (home : Homes) (proxy place : ℕ) (order : Order) (lane : Lane) (all made : List Made) (texts sent : ℕ → List ℕ) (site : SiteState) : Type 0 where
   pub end : ConnectionState
-  pub is_open : connection_at site.server site.connection ≡ Some end
-  pub out : texts site.connection ≡ lane.out
-  pub came : sent site.connection ≡ lane.came
+  pub is_open : connection_at site.server (way_by site proxy).connection ≡ Some end
+  pub out : texts (way_by site proxy).connection ≡ lane.out
+  pub came : sent (way_by site proxy).connection ≡ lane.came
   pub others : List Tagged
-  pub commands : sent_on place order lane ≡ commands_on site.connection made ++ others
-  pub ahead : site.ahead + length lane.replies ≡ length (commands_on site.connection made)
+  pub commands : sent_on place (of_proxy home proxy order) lane ≡ commands_on (way_by site proxy).connection made ++ others
+  pub ahead : (way_by site proxy).ahead + length lane.replies ≡ length (commands_on (way_by site proxy).connection made)
   pub once : (tag : Tag) → times tag (tags_made all) + times tag (tags_of others) + untaken_times tag site.lost ≤ times tag (tags_of (commands_to place order))
 
 -- A lost generation: its connection is open; the bytes that arrived and those on their way encode the commands that the server took and
@@ -44,8 +45,8 @@ pub record IsLostWay (place : ℕ) (order : Order) (made : List Made) (texts : �
   pub named : Each (IsNamed place order) others
 
 -- The invariant of a server with its ways, from what it made in this life. Its history records what it made in all its lives. Its cache
--- is good, so its replies are ones that commands can have.
-pub record SiteHolds (place : ℕ) (order : Order) (lane : Lane) (link : LinkState) (opening : CacheState) (site : SiteState) : Type 0 where
+-- is good, so its replies are ones that commands can have. The lanes and links are those of each proxy to it.
+pub record SiteHolds (home : Homes) (place : ℕ) (order : Order) (lanes : ℕ → Lane) (links : ℕ → LinkState) (opening : CacheState) (site : SiteState) : Type 0 where
   pub past : List Made
   pub made : List Made
   pub begun : length past ≡ site.begun
@@ -61,8 +62,10 @@ pub record SiteHolds (place : ℕ) (order : Order) (lane : Lane) (link : LinkSta
   pub replied : AreReplied place order site.history
   -- each command that was sent was taken, or is still to be taken, at most once
   pub once : (tag : Tag) → times tag (tags_made (past ++ made)) + untaken_times tag site.lost ≤ times tag (tags_of (commands_to place order))
-  pub living : link.up ≡ true → IsLiving place order lane (past ++ made) made texts sent site
+  pub living : (proxy : ℕ) → (links proxy).up ≡ true → IsLiving home proxy place order (lanes proxy) (past ++ made) made texts sent site
   pub lost : (i : ℕ) (way : StaleState) → slice_get site.lost i ≡ Some way → IsLostWay place order made texts site.server way
   -- no two ways share a connection
   pub apart : (i j : ℕ) (v w : StaleState) → slice_get site.lost i ≡ Some v → slice_get site.lost j ≡ Some w → i ≢ j → v.connection ≢ w.connection
-  pub apart_living : link.up ≡ true → (i : ℕ) (way : StaleState) → slice_get site.lost i ≡ Some way → site.connection ≢ way.connection
+  pub apart_living : (proxy : ℕ) → (links proxy).up ≡ true → (i : ℕ) (way : StaleState) → slice_get site.lost i ≡ Some way
+      → (way_by site proxy).connection ≢ way.connection
+  pub apart_ways : (p q : ℕ) → (links p).up ≡ true → (links q).up ≡ true → p ≢ q → (way_by site p).connection ≢ (way_by site q).connection

@@ -3,6 +3,7 @@ use Rattle.std.specs.Prelude.{ℕ, ◌≡◌, ◌+◌, ◌⊎◌, ◌↔◌, Lis
 use Rattle.mc_world.specs.Accounts.{Account}
 use Rattle.mc_world.specs.Courses.{Applies, IsDone}
 use Rattle.mc_world.specs.Happens.{Does}
+use Rattle.mc_world.specs.WorldState.{home_of}
 use Rattle.mc_world.specs.Worlds.{CourseState, WorldState, cache_of, history_of, put_out_of, text_of}
 use Rattle.mc_world.specs.declared.errors.Step.{Step}
 use Rattle.mc_world.specs.declared.errors.Step.TheVariants.{Done}
@@ -24,7 +25,7 @@ RunsTo [] old new refusals = (new ≡ old) × (refusals ≡ 0)
 RunsTo (event ∷ events) old new refusals =
     (next : CourseState) × (first : ℕ) × (more : ℕ) × IsTried event old next first × RunsTo events next new more × (refusals ≡ first + more)
 
--- the account of a world: of its choice for lost commands, its clients' texts and the bytes that were emitted to them, its servers' histories,
+-- the account of a world: of the proxy of each client, its choice for lost commands, its clients' texts and the bytes that were emitted to them, its servers' histories,
 -- and its log
 abbrev pub GivesAccount : WorldState → Type 0
-GivesAccount w = Account w.losses w.opening (cache_of w) (text_of w.course) (put_out_of w.course) (history_of w.course) w.course.log
+GivesAccount w = Account (home_of w.course.pool) w.losses w.opening (cache_of w) (text_of w.course) (put_out_of w.course) (history_of w.course) w.course.log

@@ -6,21 +6,21 @@ use crate::pools::Pool;
 use mc_store::Store;
 use mc_text::Block;
 
-/// What a drain does, with the number of the client or the place of the server.
+/// What a drain does, with the number of the client, the place of the server, or the proxy's number and the place of the server.
 #[derive(Clone, Copy)]
 pub(crate) enum Act {
     /// The server sees the end of the first of its lost generations.
     SeeEnd(usize),
-    /// The proxy takes a request of the client.
+    /// Its proxy takes a request of the client.
     TakeRequest(u64),
     /// All bytes that the link has for the server arrive there.
-    ReachServer(usize),
-    /// The server takes a request.
-    Serve(usize),
+    ReachServer(usize, usize),
+    /// The server takes a request of the proxy.
+    Serve(usize, usize),
     /// All bytes of the server arrive at the proxy.
-    ReachProxy(usize),
+    ReachProxy(usize, usize),
     /// The proxy takes a reply of the server.
-    TakeReply(usize),
+    TakeReply(usize, usize),
     /// An answer is emitted to the client.
     PutAnswer(u64),
     /// The client takes all bytes that were emitted to it.
@@ -28,33 +28,34 @@ pub(crate) enum Act {
 }
 
 impl<S: Store + Drop> Pool<S> {
-    ghost use Rattle.mc_world.specs.Acts.{coming_of, event_of, generation_of, lost_of};
+    ghost use Rattle.mc_world.specs.Acts.{coming_of, event_of, generation_of};
+    ghost use Rattle.mc_world.specs.declared.acts.Act.TheVariants.{SeeEnd};
 
     /// The event of an act, which applies if the act does.
     pub(crate) fn event_of(&self, act: Act, moment: u64) -> Event<Block>
         ensures { result ≡ event_of act moment self.now }
     {
         match act {
-            Act::SeeEnd(server) => Event::ServerSeesEnd {
-                server,
-                generation: self.lost_generation(server),
-            },
+            Act::SeeEnd(server) => self.end_of(server),
             Act::TakeRequest(client) => Event::ProxyTurn { client },
-            Act::ReachServer(server) => Event::ToServer {
+            Act::ReachServer(proxy, server) => Event::ToServer {
+                proxy,
                 server,
-                generation: self.generation(server),
-                count: self.proxy.link_output(server).len(),
+                generation: self.generation(proxy, server),
+                count: self.proxies.link_output(proxy, server).len(),
             },
-            Act::Serve(server) => Event::ServerTurn {
+            Act::Serve(proxy, server) => Event::ServerTurn {
+                proxy,
                 server,
-                generation: self.generation(server),
+                generation: self.generation(proxy, server),
                 moment,
             },
-            Act::ReachProxy(server) => Event::ToProxy {
+            Act::ReachProxy(proxy, server) => Event::ToProxy {
+                proxy,
                 server,
-                count: self.coming(server).len(),
+                count: self.coming(proxy, server).len(),
             },
-            Act::TakeReply(server) => Event::ReplyTurn { server },
+            Act::TakeReply(proxy, server) => Event::ReplyTurn { proxy, server },
             Act::PutAnswer(client) => Event::Emit { client },
             Act::TakeBytes(client) => Event::ClientTakes {
                 client,
@@ -63,35 +64,44 @@ impl<S: Store + Drop> Pool<S> {
         }
     }
 
-    /// The generation that lives at a place, or lived last: 0 if there is no server.
-    fn generation(&self, place: usize) -> u64
-        ensures { result ≡ generation_of (slice_get self.now.sites place) }
+    /// The end of the first lost generation at a place: of generation 0 if there is none.
+    fn end_of(&self, place: usize) -> Event<Block>
+        ensures { result ≡ event_of (SeeEnd place) 0 self.now }
     {
-        match self.sites.get(place) {
-            Some(site) => site.generation(),
-            None => 0,
-        }
-    }
-
-    /// The first lost generation whose end the server has not seen: 0 if there is none.
-    fn lost_generation(&self, place: usize) -> u64
-        ensures { result ≡ lost_of (slice_get self.now.sites place) }
-    {
-        let Some(site) = self.sites.get(place) else {
-            return 0;
+        let first = match self.sites.get(place) {
+            Some(site) => site.lost().first(),
+            None => None,
         };
-        match site.lost().first() {
-            Some(way) => way.generation(),
+        match first {
+            Some(way) => Event::ServerSeesEnd {
+                proxy: way.proxy(),
+                server: place,
+                generation: way.generation(),
+            },
+            None => Event::ServerSeesEnd {
+                proxy: 0,
+                server: place,
+                generation: 0,
+            },
+        }
+    }
+
+    /// The generation of a proxy's link that lives at a place, or lived last: 0 if there is no server.
+    fn generation(&self, proxy: usize, place: usize) -> u64
+        ensures { result ≡ generation_of proxy (slice_get self.now.sites place) }
+    {
+        match self.sites.get(place) {
+            Some(site) => site.way(proxy).generation,
             None => 0,
         }
     }
 
-    /// The bytes on the way from a server to the proxy.
-    fn coming(&self, place: usize) -> &[u8]
-        ensures { result.now ≡ coming_of (slice_get self.now.sites place) }
+    /// The bytes on the way from a server to a proxy.
+    fn coming(&self, proxy: usize, place: usize) -> &[u8]
+        ensures { result.now ≡ coming_of proxy (slice_get self.now.sites place) }
     {
         match self.sites.get(place) {
-            Some(site) => site.output(),
+            Some(site) => site.output(proxy),
             None => &[],
         }
     }

@@ -18,102 +18,116 @@ impl<S: Store + Drop> Pool<S> {
     {
         match event {
             Event::ClientBytes { client, bytes } => {
-                self.proxy.is_open(*client) && !bytes.as_slice().is_empty()
+                self.proxies.is_open(self.home(*client), *client) && !bytes.as_slice().is_empty()
             }
-            Event::ClientGone { client } => self.proxy.is_open(*client),
-            Event::ProxyTurn { client } => self.proxy.can_turn(*client),
+            Event::ClientGone { client } => self.proxies.is_open(self.home(*client), *client),
+            Event::ProxyTurn { client } => self.proxies.can_turn(self.home(*client), *client),
             Event::ToServer {
+                proxy,
                 server,
                 generation,
                 count,
-            } => *count > 0 && self.is_on_its_way(*server, *generation),
+            } => *count > 0 && self.is_on_its_way(*proxy, *server, *generation),
             Event::ServerTurn {
+                proxy,
                 server,
                 generation,
                 moment,
-            } => *moment < 1 << 63 && self.can_serve(*server, *generation),
-            Event::ToProxy { server, count } => *count > 0 && self.comes_back(*server),
-            Event::ReplyTurn { server } => self.proxy.is_up(*server)
-                && self.proxy.has_reply(*server),
-            Event::Emit { client } => self.proxy.has_answer(*client),
-            Event::ClientTakes { client, count } => {
-                *count > 0 && !self.proxy.output(*client).is_empty()
+            } => *moment < 1 << 63 && self.can_serve(*proxy, *server, *generation),
+            Event::ToProxy {
+                proxy,
+                server,
+                count,
+            } => *count > 0 && self.comes_back(*proxy, *server),
+            Event::ReplyTurn { proxy, server } => {
+                self.proxies.is_up(*proxy, *server) && self.proxies.has_reply(*proxy, *server)
             }
-            Event::LinkLost { server } => self.proxy.is_up(*server),
-            Event::LinkBack { server } => self.can_return(*server),
-            Event::ServerSeesEnd { server, generation } => self.has_lost(*server, *generation),
+            Event::Emit { client } => self.proxies.has_answer(self.home(*client), *client),
+            Event::ClientTakes { client, count } => {
+                *count > 0 && !self.output(*client).is_empty()
+            }
+            Event::LinkLost { proxy, server } => self.proxies.is_up(*proxy, *server),
+            Event::LinkBack { proxy, server } => self.can_return(*proxy, *server),
+            Event::ServerSeesEnd {
+                proxy,
+                server,
+                generation,
+            } => self.has_lost(*proxy, *server, *generation),
         }
     }
 
-    /// Whether bytes of a generation, living or lost, are on their way to its server.
-    fn is_on_its_way(&self, place: usize, generation: u64) -> bool
+    /// Whether bytes of a generation of a proxy's link, living or lost, are on their way to its server.
+    fn is_on_its_way(&self, proxy: usize, place: usize, generation: u64) -> bool
         ensures { (count : ℕ) → 0 < count → (IsTrue result
-            ↔ ByWay place generation self.now (CanReachServer place count self.now) (CanReachLate place generation count self.now)) }
+            ↔ ByWay proxy place generation self.now (CanReachServer proxy place count self.now) (CanReachLate proxy place generation count self.now)) }
     {
-        if self.lives(place, generation) {
-            return !self.proxy.link_output(place).is_empty();
+        if self.lives(proxy, place, generation) {
+            return !self.proxies.link_output(proxy, place).is_empty();
         }
         let Some(site) = self.sites.get(place) else {
             return false;
         };
-        match site.way(generation) {
+        match site.lost_way(proxy, generation) {
             Some(i) => !site.lost()[i].going().is_empty(),
             None => false,
         }
     }
 
-    /// Whether a whole request of a generation, living or lost, has arrived at its server.
-    fn can_serve(&self, place: usize, generation: u64) -> bool
-        ensures { IsTrue result ↔ ByWay place generation self.now (CanServe place self.now) (CanServeLate place generation self.now) }
+    /// Whether a whole request of a generation of a proxy's link, living or lost, has arrived at its server.
+    fn can_serve(&self, proxy: usize, place: usize, generation: u64) -> bool
+        ensures { IsTrue result ↔ ByWay proxy place generation self.now (CanServe proxy place self.now) (CanServeLate proxy place generation self.now) }
     {
         let Some(site) = self.sites.get(place) else {
             return false;
         };
-        if self.lives(place, generation) {
-            return site.has_request(site.connection);
+        if self.lives(proxy, place, generation) {
+            return site.has_request(site.way(proxy).connection);
         }
-        match site.way(generation) {
+        match site.lost_way(proxy, generation) {
             Some(i) => site.has_request(site.lost()[i].connection()),
             None => false,
         }
     }
 
-    /// Whether bytes of the living generation are on their way to the proxy.
-    fn comes_back(&self, place: usize) -> bool
-        ensures { (count : ℕ) → 0 < count → (IsTrue result ↔ CanReachProxy place count self.now) }
+    /// Whether bytes of a proxy's living generation are on their way to it.
+    fn comes_back(&self, proxy: usize, place: usize) -> bool
+        ensures { (count : ℕ) → 0 < count → (IsTrue result ↔ CanReachProxy proxy place count self.now) }
     {
         let Some(site) = self.sites.get(place) else {
             return false;
         };
-        if !self.proxy.is_up(place) {
+        if !self.proxies.is_up(proxy, place) {
             return false;
         }
-        !site.output().is_empty()
+        !site.output(proxy).is_empty()
     }
 
-    /// Whether a link can come up again.
-    fn can_return(&self, place: usize) -> bool
+    /// Whether a proxy's link can come up again.
+    fn can_return(&self, proxy: usize, place: usize) -> bool
         requires serves { PoolServes self.now }
-        ensures { IsTrue result ↔ CanReturn place self.now }
+        ensures { IsTrue result ↔ CanReturn proxy place self.now }
     {
         let Some(site) = self.sites.get(place) else {
             return false;
         };
-        if self.proxy.is_up(place) {
+        if self.proxies.is_up(proxy, place) {
             return false;
         }
-        if site.generation() == u64::MAX {
+        if !self.proxies.has_link(proxy, place) {
+            return false;
+        }
+        if site.way(proxy).generation == u64::MAX {
             return false;
         }
         site.server.can_admit()
     }
 
-    /// Whether a generation is lost and its server has not seen the end.
-    fn has_lost(&self, place: usize, generation: u64) -> bool
-        ensures { IsTrue result ↔ HasLost place generation self.now }
+    /// Whether a generation of a proxy's link is lost and its server has not seen the end.
+    fn has_lost(&self, proxy: usize, place: usize, generation: u64) -> bool
+        ensures { IsTrue result ↔ HasLost proxy place generation self.now }
     {
         match self.sites.get(place) {
-            Some(site) => site.way(generation).is_some(),
+            Some(site) => site.lost_way(proxy, generation).is_some(),
             None => false,
         }
     }

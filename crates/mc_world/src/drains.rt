@@ -7,8 +7,8 @@ use crate::worlds::World;
 use mc_store::Store;
 
 impl<S: Store + Drop> World<S> {
-    ghost use Rattle.mc_world.specs.Acts.{HasDrained, IsIdle, IsOver, IsRested, NoClient, NoServer};
-    ghost use Rattle.mc_world.specs.Rounds.{Alternates, DrainsInRounds, EachClient, EachServer, IsActed, IsRound, Repeats, SeesEnds, Then};
+    ghost use Rattle.mc_world.specs.Acts.{HasDrained, IsIdle, IsOver, IsRested, NoClient, NoLink, NoServer};
+    ghost use Rattle.mc_world.specs.Rounds.{Alternates, DrainsInRounds, EachClient, EachLink, EachServer, IsActed, IsRound, Repeats, SeesEnds, Then};
     ghost use Rattle.mc_world.specs.declared.acts.Act.TheVariants.{PutAnswer, ReachProxy, ReachServer, SeeEnd, Serve, TakeBytes, TakeReply, TakeRequest};
     ghost use Rattle.mc_world.specs.Drains.{Drains};
     ghost use Rattle.mc_world.specs.Quiet.{IsQuiet};
@@ -17,10 +17,10 @@ impl<S: Store + Drop> World<S> {
     /// Does all that is left to do, at a moment, until the world is quiet. Then each whole request of each client that has not gone is
     /// answered and taken, and nothing is left on any way. It loses no link, and no link comes up.
     ///
-    /// First the servers see the ends of all lost generations, servers and generations in order. Then it goes in rounds, until a round does
-    /// nothing. In a round the proxy takes, for each client in order, every request that it can. Each server, in order, gets all bytes and
-    /// takes every request that it can, in alternation until neither applies. Then the proxy gets all its bytes, and takes all replies. Each
-    /// client, in order, is sent every answer that is known, and takes all bytes.
+    /// First the servers see the ends of all lost generations: servers in order, and of each in the order in which they were lost. Then it goes
+    /// in rounds, until a round does nothing. In a round, for each client in order, its proxy takes every request that it can. On each proxy's
+    /// link to each server, both in order, the server gets all bytes and takes every request that it can, in alternation until neither applies;
+    /// then the proxy gets all its bytes, and takes all replies. Each client, in order, is sent every answer that is known, and takes all bytes.
     ///
     /// At `Memory` some of these events were done: the world gives account, and can be drained again.
     pub fn drain(&mut self, moment: u64) -> Result<(), WorldError>
@@ -91,7 +91,7 @@ impl<S: Store + Drop> World<S> {
         Ok(())
     }
 
-    /// Lets the proxy take the requests of the clients.
+    /// Lets each client's proxy take its requests.
     fn take_requests(&mut self, moment: u64) -> Result<bool, WorldError>
         requires moment { moment < 2 ^ 63 }
         ensures over { IfOk result (λ did. IsOver moment (NoClient moment TakeRequest) did self.old self.new) }
@@ -108,21 +108,48 @@ impl<S: Store + Drop> World<S> {
         Ok(did)
     }
 
-    /// Lets the servers get their bytes and take the requests in them, and the proxy get and take the replies.
+    /// Lets the servers get their bytes and take the requests in them, and the proxies get and take the replies: proxies in order.
     fn serve_all(&mut self, moment: u64) -> Result<bool, WorldError>
         requires moment { moment < 2 ^ 63 }
-        ensures over { IfOk result (λ did. IsOver moment (λ c. NoServer moment ReachServer c × NoServer moment Serve c
-            × NoServer moment ReachProxy c × NoServer moment TakeReply c) did self.old self.new) }
-        ensures servers { OnOk result (EachServer (λ place. Then (Alternates moment (ReachServer place) (Serve place))
-            (Alternates moment (ReachProxy place) (TakeReply place))) self.old.course self.new.course) }
+        ensures over { IfOk result (λ did. IsOver moment (λ c. NoLink moment ReachServer c × NoLink moment Serve c
+            × NoLink moment ReachProxy c × NoLink moment TakeReply c) did self.old self.new) }
+        ensures servers { OnOk result (EachLink (λ proxy place. Then (Alternates moment (ReachServer proxy place) (Serve proxy place))
+            (Alternates moment (ReachProxy proxy place) (TakeReply proxy place))) self.old.course self.new.course) }
+        ensures err { OnErr result (HasDrained moment self.old self.new) }
+        ensures cause { IfErr result (λ e. e ≡ WorldError.Memory) }
+    {
+        let mut did = false;
+        let proxies = self.course.pool.proxies();
+        for proxy in 0..proxies {
+            let one = self.serve_links(proxy, moment)?;
+            did |= one;
+        }
+        Ok(did)
+    }
+
+    /// Lets the servers get the bytes of a proxy and take the requests in them, and the proxy get and take the replies: servers in order.
+    fn serve_links(&mut self, proxy: usize, moment: u64) -> Result<bool, WorldError>
+        requires moment { moment < 2 ^ 63 }
+        ensures over { IfOk result (λ did. IsOver moment (λ c. NoServer moment (λ place. ReachServer proxy place) c × NoServer moment (λ place. Serve proxy place) c
+            × NoServer moment (λ place. ReachProxy proxy place) c × NoServer moment (λ place. TakeReply proxy place) c) did self.old self.new) }
+        ensures servers { OnOk result (EachServer (λ place. Then (Alternates moment (ReachServer proxy place) (Serve proxy place))
+            (Alternates moment (ReachProxy proxy place) (TakeReply proxy place))) self.old.course self.new.course) }
         ensures err { OnErr result (HasDrained moment self.old self.new) }
         ensures cause { IfErr result (λ e. e ≡ WorldError.Memory) }
     {
         let mut did = false;
         let places = self.course.pool.sites.len();
         for place in 0..places {
-            let served = self.alternate(Act::ReachServer(place), Act::Serve(place), moment)?;
-            let replied = self.alternate(Act::ReachProxy(place), Act::TakeReply(place), moment)?;
+            let served = self.alternate(
+                Act::ReachServer(proxy, place),
+                Act::Serve(proxy, place),
+                moment,
+            )?;
+            let replied = self.alternate(
+                Act::ReachProxy(proxy, place),
+                Act::TakeReply(proxy, place),
+                moment,
+            )?;
             did |= served | replied;
         }
         Ok(did)

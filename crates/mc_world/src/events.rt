@@ -18,31 +18,37 @@ pub enum Event<B> {
         /// The client's number.
         client: u64,
     },
-    /// The proxy takes a request of a client.
+    /// Its proxy takes a request of a client.
     ProxyTurn {
         /// The client's number.
         client: u64,
     },
     /// Bytes of a generation arrive at a server.
     ToServer {
+        /// The proxy's number.
+        proxy: usize,
         /// The server's place.
         server: usize,
-        /// Which generation of its link.
+        /// Which generation of the proxy's link.
         generation: u64,
         /// How many bytes; all if fewer are on their way.
         count: usize,
     },
     /// A server takes a request of a generation.
     ServerTurn {
+        /// The proxy's number.
+        proxy: usize,
         /// The server's place.
         server: usize,
-        /// Which generation of its link.
+        /// Which generation of the proxy's link.
         generation: u64,
         /// The moment: seconds since 1970, below 2^63.
         moment: u64,
     },
     /// Bytes of a server arrive at the proxy.
     ToProxy {
+        /// The proxy's number.
+        proxy: usize,
         /// The server's place.
         server: usize,
         /// How many bytes; all if fewer are on their way.
@@ -50,6 +56,8 @@ pub enum Event<B> {
     },
     /// The proxy takes a reply of a server.
     ReplyTurn {
+        /// The proxy's number.
+        proxy: usize,
         /// The server's place.
         server: usize,
     },
@@ -67,19 +75,25 @@ pub enum Event<B> {
     },
     /// The link to a server is lost.
     LinkLost {
+        /// The proxy's number.
+        proxy: usize,
         /// The server's place.
         server: usize,
     },
     /// The link to a server comes up again.
     LinkBack {
+        /// The proxy's number.
+        proxy: usize,
         /// The server's place.
         server: usize,
     },
     /// A server sees the end of a lost generation.
     ServerSeesEnd {
+        /// The proxy's number.
+        proxy: usize,
         /// The server's place.
         server: usize,
-        /// Which generation of its link.
+        /// Which generation of the proxy's link.
         generation: u64,
     },
 }
@@ -96,32 +110,50 @@ impl Event<Block> {
             Event::ClientGone { client } => Event::ClientGone { client },
             Event::ProxyTurn { client } => Event::ProxyTurn { client },
             Event::ToServer {
+                proxy,
                 server,
                 generation,
                 count,
             } => Event::ToServer {
+                proxy,
                 server,
                 generation,
                 count,
             },
             Event::ServerTurn {
+                proxy,
                 server,
                 generation,
                 moment,
             } => Event::ServerTurn {
+                proxy,
                 server,
                 generation,
                 moment,
             },
-            Event::ToProxy { server, count } => Event::ToProxy { server, count },
-            Event::ReplyTurn { server } => Event::ReplyTurn { server },
+            Event::ToProxy {
+                proxy,
+                server,
+                count,
+            } => Event::ToProxy {
+                proxy,
+                server,
+                count,
+            },
+            Event::ReplyTurn { proxy, server } => Event::ReplyTurn { proxy, server },
             Event::Emit { client } => Event::Emit { client },
             Event::ClientTakes { client, count } => Event::ClientTakes { client, count },
-            Event::LinkLost { server } => Event::LinkLost { server },
-            Event::LinkBack { server } => Event::LinkBack { server },
-            Event::ServerSeesEnd { server, generation } => {
-                Event::ServerSeesEnd { server, generation }
-            }
+            Event::LinkLost { proxy, server } => Event::LinkLost { proxy, server },
+            Event::LinkBack { proxy, server } => Event::LinkBack { proxy, server },
+            Event::ServerSeesEnd {
+                proxy,
+                server,
+                generation,
+            } => Event::ServerSeesEnd {
+                proxy,
+                server,
+                generation,
+            },
         }
     }
 }

@@ -1,11 +1,12 @@
-//! What happens on lost generations of a site, and how its link is lost and comes up again.
+//! What happens on lost generations of a site, and how a proxy's link to it is lost and comes up again.
 ghost use Rattle.std.specs.Prelude.{◌≡◌, ◌+◌, ◌-◌, ◌<◌, ◌^◌, ◌↔◌, true, Some, length, slice_get, IfOk, OnOk, OnErr};
 
 use crate::errors::{Step, WorldError};
+use crate::proxies::Proxies;
 use crate::sites::Site;
 use crate::stale_connections::{StaleConnection, tags_from};
 use crate::turning::serve;
-use mc_proxy::Proxy;
+use crate::ways::Way;
 use mc_server::ServerError;
 use mc_store::Store;
 
@@ -18,7 +19,7 @@ impl<S: Store + Drop> Site<S> {
     ghost use Rattle.mc_world.specs.Happens.{ArrivesLate, ComesBack, Does, Ends, EntersLate};
     ghost use Rattle.mc_world.specs.Pools.{cut_off};
     ghost use Rattle.mc_world.specs.Serving.{ServesProxy};
-    ghost use Rattle.mc_world.specs.WorldState.{StaleState};
+    ghost use Rattle.mc_world.specs.WorldState.{StaleState, proxy_in, with_proxy};
 
     /// The lost generations whose end the server has not seen.
     pub fn lost(&self) -> &[StaleConnection]
@@ -27,13 +28,11 @@ impl<S: Store + Drop> Site<S> {
         self.lost.as_slice()
     }
 
-    /// The index of a lost generation among them: the first of this number.
-    pub fn way(&self, generation: u64) -> Option<usize>
-        ensures { result ≡ way_of generation self.now.lost }
+    /// The index of a lost generation of a proxy among them: the first of this number.
+    pub(crate) fn lost_way(&self, proxy: usize, generation: u64) -> Option<usize>
+        ensures { result ≡ way_of proxy generation self.now.lost }
     {
-        self.lost
-            .iter()
-            .position(|way| way.generation() == generation)
+        self.lost.iter().position(|way| way.proxy() == proxy && way.generation() == generation)
     }
 
     /// Bytes of a lost generation arrive: this number, or all that are on their way.
@@ -92,30 +91,38 @@ impl<S: Store + Drop> Site<S> {
         self.lost.remove(i);
     }
 
-    /// The link to the server is lost. Its bytes go on their way, and the tags of the commands that the server has not taken
-    /// are kept with them.
-    pub(crate) fn cut_off(&mut self, proxy: &mut Proxy, place: usize) -> Result<(), WorldError>
-        requires { (link_at proxy.old.links place).up ≡ true }
-        ensures cut { OnOk result (self.new ≡ cut_off (link_at proxy.old.links place) self.old) }
-        ensures lost { OnOk result (proxy.new ≡ lost_at place proxy.old) }
+    /// A proxy's link to the server, which is up, is lost. Its bytes go on their way, and the tags of the commands that the server
+    /// has not taken are kept with them.
+    pub(crate) fn cut_off(
+        &mut self,
+        proxies: &mut Proxies,
+        proxy: usize,
+        place: usize,
+    ) -> Result<(), WorldError>
+        requires { (link_at (proxy_in proxies.old proxy).links place).up ≡ true }
+        ensures cut { OnOk result (self.new ≡ cut_off proxy (link_at (proxy_in proxies.old proxy).links place) self.old) }
+        ensures lost { OnOk result (proxies.new ≡ with_proxy proxy (lost_at place (proxy_in proxies.old proxy)) proxies.old) }
         ensures err { OnErr result (self.new ≡ self.old) }
-        ensures proxy_err { OnErr result (proxy.new ≡ proxy.old) }
+        ensures proxies_err { OnErr result (proxies.new ≡ proxies.old) }
     {
+        let way = self.way(proxy);
         self.lost.reserve(1)?;
-        let untaken = tags_from(self.alloc, proxy, place, self.ahead)?;
-        let bytes = proxy.lost(place)?;
+        let untaken = tags_from(self.alloc, proxies, proxy, place, way.ahead)?;
+        let bytes = proxies.lost(proxy, place)?;
         self.lost.push_reserved(StaleConnection::new(
-            self.generation,
-            self.connection,
+            proxy,
+            way.generation,
+            way.connection,
             bytes,
             untaken,
         ));
         Ok(())
     }
 
-    /// The link to the server comes up, as this generation, if the server can admit a connection for it.
-    pub(crate) fn come_back(&mut self, generation: u64) -> Result<Step, WorldError>
-        ensures back { IfOk result (λ step. Does step (ComesBack generation self.old self.new) (self.new ≡ self.old)) }
+    /// A proxy's link to the server comes up, as this generation, if the server can admit a connection for it.
+    pub(crate) fn come_back(&mut self, proxy: usize, generation: u64) -> Result<Step, WorldError>
+        requires inside { proxy < length self.old.ways }
+        ensures back { IfOk result (λ step. Does step (ComesBack proxy generation self.old self.new) (self.new ≡ self.old)) }
         ensures applies { IfOk result (λ step. (step ≡ Step.Done) ↔ CanAdmit self.old.server) }
         ensures err { OnErr result (self.new ≡ self.old) }
         ensures err_admits { OnErr result (CanAdmit self.old.server) }
@@ -125,9 +132,14 @@ impl<S: Store + Drop> Site<S> {
             Err(ServerError::TooMany) => return Ok(Step::Nothing),
             Err(_) => return Err(WorldError::Memory),
         };
-        self.generation = generation;
-        self.connection = connection;
-        self.ahead = 0;
+        self.set_way(
+            proxy,
+            Way {
+                generation,
+                connection,
+                ahead: 0,
+            },
+        );
         Ok(Step::Done)
     }
 }

@@ -16,23 +16,24 @@ impl<S: Store + Drop> Site<S> {
     {
         self.server = server;
         self.begun = self.history.len();
-        self.ahead = 0;
+        for way in self.ways.iter_mut() {
+            way.ahead = 0;
+        }
         self.lost.clear();
     }
 }
 
 impl<S: Store + Drop> Pool<S> {
-    ghost use Rattle.mc_world.specs.Applies.{IsUp};
-    ghost use Rattle.mc_world.specs.Restarts.{ServerRestarts};
+    ghost use Rattle.mc_world.specs.Restarts.{ServerDies};
 
-    /// Replaces the server of a place whose link is down by another, which has admitted nobody. Every connection and every lost
-    /// generation of the one before is gone, with its bytes. The call takes no memory.
+    /// The server of a place dies, and another, which has admitted nobody, takes its place. Each proxy's link to it is lost, if it was up.
+    /// Every connection and every lost generation is gone, with its bytes. The call takes no memory.
     pub fn restart(&mut self, place: usize, server: Server<S>)
         requires inside { place < length self.old.sites }
-        requires down { IsUp place self.old → ⊥ }
         requires fresh { server ≡ record { cache = server.cache; connections = []; admitted = 0 } }
-        ensures { ServerRestarts place server.cache self.old self.new }
+        ensures { ServerDies place server.cache self.old self.new }
     {
+        self.proxies.lose_all(place);
         self.sites[place].restart(server);
     }
 }

@@ -1,9 +1,10 @@
 //! A server with its ways.
-ghost use Rattle.std.specs.Prelude.{◌≡◌, ◌≤◌, ◌<◌, ◌+◌, ◌-◌, ◌^◌, ◌↔◌, length, IfOk, IsTrue, OnOk, OnErr};
+ghost use Rattle.std.specs.Prelude.{◌≡◌, [], ◌≤◌, ◌<◌, ◌+◌, ◌-◌, ◌^◌, ◌↔◌, length, IfOk, IsTrue, OnOk, OnErr};
 
 use crate::errors::{Step, WorldError};
 use crate::stale_connections::StaleConnection;
 use crate::turning::serve;
+use crate::ways::{NO_WAY, Way};
 use mc_history::Entry;
 use mc_link::Tag;
 use mc_server::Server;
@@ -20,13 +21,9 @@ pub struct Site<S: Store + Drop> {
     pub(crate) history: Vec<Entry>,
     /// How many entries of the history it took before its life began.
     pub(crate) begun: usize,
-    /// The living generation, or the last that lived.
-    pub(crate) generation: u64,
-    /// The number of its connection.
-    pub(crate) connection: u64,
-    /// How many commands of the living generation the server took whose replies the proxy has not taken.
-    pub(crate) ahead: usize,
-    /// The lost generations whose end the server has not seen.
+    /// The way of each proxy, by its number.
+    pub(crate) ways: Vec<Way>,
+    /// The lost generations whose end the server has not seen, in the order in which they were lost.
     pub(crate) lost: Vec<StaleConnection>,
 }
 
@@ -39,9 +36,7 @@ impl<S: Store + Drop> Model for Site<S> {
       server = s.server;
       history = s.history.items;
       begun = s.begun;
-      generation = s.generation;
-      connection = s.connection;
-      ahead = s.ahead;
+      ways = s.ways.items;
       lost = s.lost.items;
     } };
 }
@@ -51,20 +46,18 @@ impl<S: Store + Drop> Site<S> {
     ghost use Rattle.mc_server.specs.Turns.{waiting_of};
     ghost use Rattle.mc_world.specs.Happens.{Arrives, Does, Enters, returned, taken_one};
     ghost use Rattle.mc_world.specs.Serving.{ServesProxy};
-    ghost use Rattle.mc_world.specs.WorldState.{with_server};
+    ghost use Rattle.mc_world.specs.WorldState.{way_by, with_way};
 
-    /// A server that has admitted the connection of its link, which is of the first generation.
-    pub(crate) fn first(alloc: Global, server: Server<S>) -> Self
-        ensures { result ≡ with_server server }
+    /// A server with these ways, by the numbers of their proxies, over connections that it has admitted.
+    pub(crate) fn first(alloc: Global, server: Server<S>, ways: Vec<Way>) -> Self
+        ensures { result ≡ record { server = server; history = []; begun = 0; ways = ways.items; lost = [] } }
     {
         Site {
             alloc,
             server,
             history: Vec::new(alloc),
             begun: 0,
-            generation: 1,
-            connection: 0,
-            ahead: 0,
+            ways,
             lost: Vec::new(alloc),
         }
     }
@@ -76,18 +69,23 @@ impl<S: Store + Drop> Site<S> {
         self.history.as_slice()
     }
 
-    /// How many commands of the living generation the server took whose replies the proxy has not taken.
-    pub fn ahead(&self) -> usize
-        ensures { result ≡ self.now.ahead }
+    /// The way of a proxy; one that has not been up if there is no such proxy.
+    pub fn way(&self, proxy: usize) -> Way
+        ensures { result ≡ way_by self.now proxy }
     {
-        self.ahead
+        match self.ways.get(proxy) {
+            Some(way) => *way,
+            None => NO_WAY,
+        }
     }
 
-    /// Which generation lives, or lived last.
-    pub fn generation(&self) -> u64
-        ensures { result ≡ self.now.generation }
+    /// The way of a proxy is another now. Nothing changes if there is no such proxy.
+    pub(crate) fn set_way(&mut self, proxy: usize, way: Way)
+        ensures { self.new ≡ record self.old { ways = with_way proxy way self.old.ways } }
     {
-        self.generation
+        if let Some(place) = self.ways.get_mut(proxy) {
+            *place = way;
+        }
     }
 
     /// Whether a whole request of a connection has arrived.
@@ -100,61 +98,67 @@ impl<S: Store + Drop> Site<S> {
         }
     }
 
-    /// Bytes arrive on the living generation.
-    pub fn arrive(&mut self, piece: &[u8]) -> Result<(), WorldError>
-        ensures arrived { OnOk result (Arrives piece.now self.old self.new) }
+    /// Bytes of a proxy's living generation arrive.
+    pub fn arrive(&mut self, proxy: usize, piece: &[u8]) -> Result<(), WorldError>
+        ensures arrived { OnOk result (Arrives proxy piece.now self.old self.new) }
         ensures err { OnErr result (self.new ≡ self.old) }
     {
-        self.server.feed(self.connection, piece)?;
+        let connection = self.way(proxy).connection;
+        self.server.feed(connection, piece)?;
         Ok(())
     }
 
-    /// The bytes on the way back from the living generation.
-    pub fn output(&self) -> &[u8]
-        ensures { result.now ≡ output_of (connection_at self.now.server self.now.connection) }
+    /// The bytes on the way back to a proxy from its living generation.
+    pub fn output(&self, proxy: usize) -> &[u8]
+        ensures { result.now ≡ output_of (connection_at self.now.server (way_by self.now proxy).connection) }
     {
-        self.server.output(self.connection)
+        self.server.output(self.way(proxy).connection)
     }
 
     /// Releases the first of them, which the proxy was given.
-    pub fn give(&mut self, count: usize)
-        requires { count ≤ length (output_of (connection_at self.old.server self.old.connection)) }
-        ensures { self.new ≡ returned count self.old }
+    pub fn give(&mut self, proxy: usize, count: usize)
+        requires { count ≤ length (output_of (connection_at self.old.server (way_by self.old proxy).connection)) }
+        ensures { self.new ≡ returned proxy count self.old }
     {
-        self.server.taken_out(self.connection, count);
+        let connection = self.way(proxy).connection;
+        self.server.taken_out(connection, count);
     }
 
-    /// A reply of the living generation was taken.
-    pub fn replied(&mut self)
-        requires { 1 ≤ self.old.ahead }
-        ensures { self.new ≡ taken_one self.old }
+    /// A reply of a proxy's living generation was taken.
+    pub fn replied(&mut self, proxy: usize)
+        requires { 1 ≤ (way_by self.old proxy).ahead }
+        ensures { self.new ≡ taken_one proxy self.old }
     {
-        self.ahead -= 1;
+        let mut way = self.way(proxy);
+        way.ahead -= 1;
+        self.set_way(proxy, way);
     }
 
-    /// The server takes a request of the living generation, if a whole one has arrived: the command of
+    /// The server takes a request of a proxy's living generation, if a whole one has arrived: the command of
     /// this tag.
-    pub fn turn(&mut self, tag: Tag, moment: u64) -> Result<Step, WorldError>
+    pub fn turn(&mut self, proxy: usize, tag: Tag, moment: u64) -> Result<Step, WorldError>
         requires moment { moment < 2 ^ 63 }
-        requires room { self.old.ahead < 2 ^ 64 - 1 }
-        requires serves { ServesProxy self.old.connection self.old.server }
-        ensures enters { IfOk result (λ step. Does step (Enters moment tag self.old self.new) (self.new ≡ self.old)) }
-        ensures applies { IfOk result (λ step. (step ≡ Step.Done) ↔ (0 < length (waiting_of (connection_at self.old.server self.old.connection)))) }
+        requires room { (way_by self.old proxy).ahead < 2 ^ 64 - 1 }
+        requires serves { ServesProxy (way_by self.old proxy).connection self.old.server }
+        ensures enters { IfOk result (λ step. Does step (Enters proxy moment tag self.old self.new) (self.new ≡ self.old)) }
+        ensures applies { IfOk result (λ step. (step ≡ Step.Done) ↔ (0 < length (waiting_of (connection_at self.old.server (way_by self.old proxy).connection)))) }
         ensures err { OnErr result (self.new ≡ self.old) }
-        ensures err_applies { OnErr result (0 < length (waiting_of (connection_at self.old.server self.old.connection))) }
+        ensures err_applies { OnErr result (0 < length (waiting_of (connection_at self.old.server (way_by self.old proxy).connection))) }
     {
+        let mut way = self.way(proxy);
         let Step::Done = serve(
             self.alloc,
             &mut self.server,
             &mut self.history,
-            self.connection,
+            way.connection,
             tag,
             moment,
         )?
         else {
             return Ok(Step::Nothing);
         };
-        self.ahead += 1;
+        way.ahead += 1;
+        self.set_way(proxy, way);
         Ok(Step::Done)
     }
 }

@@ -1,9 +1,10 @@
 //! A lost generation of a link, as its server still has it.
 ghost use Rattle.std.specs.Prelude.{◌≡◌, drop, map, slice_get, take, IfOk};
 ghost use Rattle.mc_proxy.specs.SessionState.{link_at};
+ghost use Rattle.mc_world.specs.WorldState.{proxy_in};
 
+use crate::proxies::Proxies;
 use mc_link::Tag;
-use mc_proxy::Proxy;
 use mc_text::consume_front;
 use std::alloc::{AllocError, Global};
 use std::collections::VecDeque;
@@ -12,6 +13,8 @@ use std::marker::Model;
 /// A lost generation whose end its server has not seen.
 #[derive(Drop)]
 pub struct StaleConnection {
+    /// The number of the proxy whose link it was.
+    proxy: usize,
     /// Which generation it is.
     generation: u64,
     /// The number of the server's connection.
@@ -31,6 +34,7 @@ impl Model for StaleConnection {
     ghost Value = { StaleState };
 
     ghost view = { λ w. record {
+      proxy = w.proxy;
       generation = w.generation;
       connection = w.connection;
       going = drop w.arrived w.bytes.items;
@@ -43,20 +47,29 @@ impl Model for StaleConnection {
 impl StaleConnection {
     /// A lost generation, with the bytes that are on their way and the tags of the commands that were not taken.
     pub(crate) fn new(
+        proxy: usize,
         generation: u64,
         connection: u64,
         bytes: Vec<u8>,
         untaken: VecDeque<Tag>,
     ) -> StaleConnection
-        ensures { result ≡ record { generation = generation; connection = connection; going = bytes.items; untaken = untaken.items } }
+        ensures { result ≡ record { proxy = proxy; generation = generation; connection = connection; going = bytes.items; untaken = untaken.items } }
     {
         StaleConnection {
+            proxy,
             generation,
             connection,
             bytes,
             arrived: 0,
             untaken,
         }
+    }
+
+    /// The number of the proxy whose link it was.
+    pub fn proxy(&self) -> usize
+        ensures { result ≡ self.now.proxy }
+    {
+        self.proxy
     }
 
     /// Which generation it is.
@@ -113,19 +126,20 @@ impl StaleConnection {
     }
 }
 
-/// The tags of the pending commands on the link of a place, from a number on.
+/// The tags of the pending commands on the link of a proxy to a place, from a number on.
 pub(crate) fn tags_from(
     alloc: Global,
-    proxy: &Proxy,
+    proxies: &Proxies,
+    proxy: usize,
     place: usize,
     first: usize,
 ) -> Result<VecDeque<Tag>, AllocError>
-    ensures { IfOk result (λ tags. tags.items ≡ drop first (map (λ waiting. waiting.1) (link_at proxy.now.links place).waiting)) }
+    ensures { IfOk result (λ tags. tags.items ≡ drop first (map (λ waiting. waiting.1) (link_at (proxy_in proxies.now proxy).links place).waiting)) }
 {
-    let count = proxy.waiting(place);
+    let count = proxies.waiting(proxy, place);
     let mut tags = VecDeque::with_capacity(alloc, count.saturating_sub(first))?;
     for number in first..count {
-        if let Some(tag) = proxy.tag(place, number) {
+        if let Some(tag) = proxies.tag(proxy, place, number) {
             tags.push_back(tag)?;
         }
     }

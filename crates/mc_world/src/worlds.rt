@@ -1,5 +1,5 @@
 //! The world: a pool with the log of what was done to it, and its account.
-ghost use Rattle.std.specs.Prelude.{◌≡◌, ◌↔◌, ◌⊎◌, [], length, All, IfErr, IfOk, IsErrOf, OnOk, OnErr};
+ghost use Rattle.std.specs.Prelude.{◌≡◌, ◌≤◌, ◌↔◌, ◌⊎◌, [], ◌∷◌, length, sum, All, IfErr, IfOk, IsErrOf, IsTrue, OnOk, OnErr};
 
 use crate::clients::Client;
 use crate::courses::Course;
@@ -16,10 +16,13 @@ use mc_text::Block;
 use std::alloc::Global;
 use std::marker::Model;
 
-/// The most clients of a world.
+/// The most clients of a world, of all its proxies.
 pub const MAX_CLIENTS: usize = 1024;
 
-/// A proxy and its servers, the ways between them, their clients, and all that was done. Contracts see all of it, and that it gives
+/// The most proxies of a world.
+pub const MAX_PROXIES: usize = 64;
+
+/// Proxies and their servers, the ways between them, their clients, and all that was done. Contracts see all of it, and that it gives
 /// account. Each client's bytes are its requests' answers in order. Each server's executed commands are one history, which the abstract
 /// cache replays life by life. Each answered command is once in its owner's history, and each lost one at most once.
 #[derive(Drop)]
@@ -50,7 +53,7 @@ impl World<ListStore> {
     ghost use Rattle.mc_world.specs.Steps.{GivesAccount};
     ghost use Rattle.mc_world.specs.Worlds.{opening_world};
 
-    /// A world over plain lists in which nothing has happened: its clients are admitted, and all links are up with the first
+    /// A world of one proxy, over plain lists, in which nothing has happened: its clients are admitted, and all links are up with the first
     /// generation. The choice for lost commands is [`Losses::Told`].
     ///
     /// The call returns `BadWorld` for more than [`MAX_CLIENTS`] clients, and for bounds that no cache may have: 1 to 1,099,511,627,776
@@ -63,7 +66,7 @@ impl World<ListStore> {
         items: usize,
     ) -> Result<World<ListStore>, WorldError>
         ensures opened { IfOk result (λ world. world ≡ opening_world ring clients budget items) }
-        ensures bad { IsErrOf result WorldError.BadWorld ↔ (CanOpen ring clients budget items (length ring.servers) → ⊥) }
+        ensures bad { IsErrOf result WorldError.BadWorld ↔ (CanOpen ring (clients ∷ []) budget items (length ring.servers) → ⊥) }
         ensures only { IfErr result (λ e. (e ≡ WorldError.BadWorld) ⊎ (e ≡ WorldError.Memory)) }
         ensures account { IfOk result GivesAccount }
     {
@@ -79,14 +82,15 @@ impl<S: Store + Drop> World<S> {
     ghost use Rattle.mc_cache.specs.CacheState.{HasRoom, IsWithinBounds};
     ghost use Rattle.mc_ring.specs.Rings.{IsRing};
     ghost use Rattle.mc_world.specs.Courses.{Applies};
-    ghost use Rattle.mc_world.specs.Joins.{HasServerJoined};
-    ghost use Rattle.mc_world.specs.Refusals.{refusal_in, refusal_of, restart_refusal_of};
+    ghost use Rattle.mc_world.specs.Joins.{HasLearnedServer, HasServerJoined};
+    ghost use Rattle.mc_world.specs.Refusals.{cause_in, join_refusal_of, learn_refusal_of, refusal_in, restart_refusal_of};
     ghost use Rattle.mc_world.specs.Restarts.{HasServerRestarted};
     ghost use Rattle.mc_world.specs.Openings.{CanOpen};
     ghost use Rattle.mc_world.specs.Steps.{GivesAccount, RunsTo, StepsTo};
+    ghost use Rattle.mc_world.specs.WorldState.{proxy_at};
     ghost use Rattle.mc_world.specs.Worlds.{cache_of, history_of, opening_world, put_out_of, text_of, world_opened};
 
-    /// A world in which nothing has happened: its clients are admitted, and all links are up with the first generation. There is a
+    /// A world of one proxy in which nothing has happened: its clients are admitted, and all links are up with the first generation. There is a
     /// store for each server of the ring; each is empty, and may store more items than the limit. The choice for lost commands is
     /// [`Losses::Told`].
     ///
@@ -103,7 +107,7 @@ impl<S: Store + Drop> World<S> {
         requires empty { All (λ store. S.items store ≡ []) stores.items }
         requires room { All (λ store. HasRoom items (S.most store)) stores.items }
         ensures opened { IfOk result (λ world. world ≡ opening_world ring clients budget items) }
-        ensures bad { IsErrOf result WorldError.BadWorld ↔ (CanOpen ring clients budget items (length stores.items) → ⊥) }
+        ensures bad { IsErrOf result WorldError.BadWorld ↔ (CanOpen ring (clients ∷ []) budget items (length stores.items) → ⊥) }
         ensures only { IfErr result (λ e. (e ≡ WorldError.BadWorld) ⊎ (e ≡ WorldError.Memory)) }
         ensures account { IfOk result GivesAccount }
     {
@@ -122,24 +126,45 @@ impl<S: Store + Drop> World<S> {
     ) -> Result<World<S>, WorldError>
         requires empty { All (λ store. S.items store ≡ []) stores.items }
         requires room { All (λ store. HasRoom items (S.most store)) stores.items }
-        ensures opened { IfOk result (λ world. world ≡ world_opened losses ring clients budget items) }
-        ensures bad { IsErrOf result WorldError.BadWorld ↔ (CanOpen ring clients budget items (length stores.items) → ⊥) }
+        ensures opened { IfOk result (λ world. world ≡ world_opened losses ring (clients ∷ []) budget items) }
+        ensures bad { IsErrOf result WorldError.BadWorld ↔ (CanOpen ring (clients ∷ []) budget items (length stores.items) → ⊥) }
         ensures only { IfErr result (λ e. (e ≡ WorldError.BadWorld) ⊎ (e ≡ WorldError.Memory)) }
         ensures account { IfOk result GivesAccount }
     {
-        if clients > MAX_CLIENTS
+        World::with_proxies(alloc, ring, losses, &[clients], budget, items, stores)
+    }
+
+    /// Likewise, with a proxy for each of these numbers of clients. The first proxy has the first clients, and so on.
+    ///
+    /// The call also returns `BadWorld` for no proxy, and for more than [`MAX_PROXIES`].
+    pub fn with_proxies(
+        alloc: Global,
+        ring: Ring,
+        losses: Losses,
+        clients: &[usize],
+        budget: u64,
+        items: usize,
+        stores: Vec<S>,
+    ) -> Result<World<S>, WorldError>
+        requires empty { All (λ store. S.items store ≡ []) stores.items }
+        requires room { All (λ store. HasRoom items (S.most store)) stores.items }
+        ensures opened { IfOk result (λ world. world ≡ world_opened losses ring clients.now budget items) }
+        ensures bad { IsErrOf result WorldError.BadWorld ↔ (CanOpen ring clients.now budget items (length stores.items) → ⊥) }
+        ensures only { IfErr result (λ e. (e ≡ WorldError.BadWorld) ⊎ (e ≡ WorldError.Memory)) }
+        ensures account { IfOk result GivesAccount }
+    {
+        if !are_few(clients)
             || !is_within_bounds(budget, items)
             || stores.len() != ring.servers().len()
         {
             return Err(WorldError::BadWorld);
         }
-        let opening = ring.copy()?;
-        let course = opened_course(alloc, ring, losses, clients, budget, items, stores)?;
+        let course = opened_course(alloc, &ring, losses, clients, budget, items, stores)?;
         Ok(World {
             alloc,
             course,
             losses,
-            opening,
+            opening: ring,
             budget,
             items,
         })
@@ -188,30 +213,68 @@ impl<S: Store + Drop> World<S> {
         let _ = self.opening.servers();
     }
 
-    /// Adds a server over this store at the last place, with the bounds of the others, and returns that place. Its link is up. A
-    /// request that was taken before keeps its owners, and no item moves.
-    ///
-    /// The error is `RingFull` if the ring has 64 servers, else `AlreadyThere` if it has one of this address, else `Memory` if memory
-    /// is refused. Then nothing has changed, and the store is returned, as empty as it was.
+    /// Adds a server over this store at the last place, with the bounds of the others, and returns that place. It joins at the first
+    /// proxy: see [`World::join_server_at`].
     pub fn join_server(&mut self, address: Address, store: S) -> Result<usize, (WorldError, S)>
         requires empty { S.items store ≡ [] }
         requires room { HasRoom self.old.items (S.most store) }
-        ensures joined { OnOk result (HasServerJoined address (cache_of self.old) self.old.course self.new.course) }
-        ensures place { IfOk result (λ place. place ≡ length self.old.course.pool.proxy.ring.servers) }
+        ensures joined { OnOk result (HasServerJoined 0 address (cache_of self.old) self.old.course self.new.course) }
+        ensures place { IfOk result (λ place. place ≡ length (proxy_at self.old.course.pool 0).ring.servers) }
         ensures opened { (self.new.opening ≡ self.old.opening) × (self.new.budget ≡ self.old.budget) × (self.new.items ≡ self.old.items) × (self.new.losses ≡ self.old.losses) }
         ensures account { GivesAccount self.new }
-        ensures refused { refusal_in result ≡ refusal_of self.old.course.pool.proxy.ring.servers address }
+        ensures refused { refusal_in result ≡ join_refusal_of self.old.course.pool 0 address }
+        ensures given_back { IfErr result (λ refused. (S.items refused.1 ≡ []) × HasRoom self.old.items (S.most refused.1)) }
+        ensures err { OnErr result (self.new ≡ self.old) }
+    {
+        self.join_server_at(0, address, store)
+    }
+
+    /// Adds a server over this store at the last place, with the bounds of the others, and returns that place. It joins at this proxy,
+    /// whose link to it is up; another proxy learns it later ([`World::learn_server`]). A request that was taken before keeps its owners,
+    /// and no item moves.
+    ///
+    /// The error is `NoProxy` if there is no such proxy, else `Behind` if it has not learned all servers, else `RingFull` if its ring has
+    /// 64 servers, else `AlreadyThere` if that has one of this address, else `Memory` if memory is refused. Then nothing has changed,
+    /// and the store is returned, as empty as it was.
+    pub fn join_server_at(
+        &mut self,
+        proxy: usize,
+        address: Address,
+        store: S,
+    ) -> Result<usize, (WorldError, S)>
+        requires empty { S.items store ≡ [] }
+        requires room { HasRoom self.old.items (S.most store) }
+        ensures joined { OnOk result (HasServerJoined proxy address (cache_of self.old) self.old.course self.new.course) }
+        ensures place { IfOk result (λ place. place ≡ length (proxy_at self.old.course.pool proxy).ring.servers) }
+        ensures opened { (self.new.opening ≡ self.old.opening) × (self.new.budget ≡ self.old.budget) × (self.new.items ≡ self.old.items) × (self.new.losses ≡ self.old.losses) }
+        ensures account { GivesAccount self.new }
+        ensures refused { refusal_in result ≡ join_refusal_of self.old.course.pool proxy address }
         ensures given_back { IfErr result (λ refused. (S.items refused.1 ≡ []) × HasRoom self.old.items (S.most refused.1)) }
         ensures err { OnErr result (self.new ≡ self.old) }
     {
         let server = fresh_server(self.alloc, self.budget, self.items, store);
-        match self.course.join(address, server) {
+        match self.course.join(proxy, address, server) {
             Ok(place) => Ok(place),
             Err((cause, server)) => Err((cause, server.into_store())),
         }
     }
 
-    /// The server of a place dies and begins anew over this store, with the bounds of the others. Its link is lost, if it was up. Each
+    /// A proxy learns the server of its next place, under this address, and returns that place. Its link to it is down until it comes back.
+    ///
+    /// The error is `NoProxy` if there is no such proxy, else `NoServer` if it knows all servers, else `RingFull` if its ring has 64
+    /// servers, else `AlreadyThere` if that has one of this address, else `Memory` if memory is refused. Then nothing has changed.
+    pub fn learn_server(&mut self, proxy: usize, address: Address) -> Result<usize, WorldError>
+        ensures learned { OnOk result (HasLearnedServer proxy address self.old.course self.new.course) }
+        ensures place { IfOk result (λ place. place ≡ length (proxy_at self.old.course.pool proxy).ring.servers) }
+        ensures opened { (self.new.opening ≡ self.old.opening) × (self.new.budget ≡ self.old.budget) × (self.new.items ≡ self.old.items) × (self.new.losses ≡ self.old.losses) }
+        ensures account { GivesAccount self.new }
+        ensures refused { cause_in result ≡ learn_refusal_of self.old.course.pool proxy address }
+        ensures err { OnErr result (self.new ≡ self.old) }
+    {
+        self.course.learn(proxy, address)
+    }
+
+    /// The server of a place dies and begins anew over this store, with the bounds of the others. Each proxy's link to it is lost, if it was up. Each
     /// of its connections and lost generations is gone with its bytes. Its cache is empty, and numbers of items begin at 1.
     ///
     /// The error is `NoServer` if no server has this place, else `Memory` if memory is refused. Then nothing has changed, and the store
@@ -272,4 +335,21 @@ impl<S: Store + Drop> World<S> {
     {
         self.course.log.as_slice()
     }
+}
+
+/// Whether there are 1 to [`MAX_PROXIES`] proxies with these numbers of clients, and at most [`MAX_CLIENTS`] clients.
+fn are_few(clients: &[usize]) -> bool
+    ensures { IsTrue result ↔ ((1 ≤ length clients.now) × (length clients.now ≤ MAX_PROXIES) × (sum clients.now ≤ MAX_CLIENTS)) }
+{
+    if clients.is_empty() || clients.len() > MAX_PROXIES {
+        return false;
+    }
+    let mut all = 0;
+    for count in clients {
+        if *count > MAX_CLIENTS - all {
+            return false;
+        }
+        all += *count;
+    }
+    true
 }

@@ -13,6 +13,9 @@ use Rattle.mc_proxy.specs.Noting.{all_lost, noted}
 use Rattle.mc_proxy.specs.ProxyState.{ProxyState, Sessions, output_of, sent_by, session_at, session_in, updated, without}
 use Rattle.mc_proxy.specs.Turns.{Steps}
 use Rattle.mc_account.proofs.OpenSessions.{noted_other, noted_own, updated_other, updated_own, without_other}
+use Rattle.mc_world.specs.Pools.{ProxiesStay, ProxyBecomes}
+use Rattle.mc_world.specs.WorldState.{PoolState, home_of, proxy_at, session_of}
+use Rattle.mc_world.proofs.PoolEvents.ProxyLemmas.{all_keep, home_becomes, session_stays}
 
 -- the output of the session of a number
 abbrev pub unsent : Sessions → ℕ → List ℕ
@@ -82,6 +85,16 @@ unsent_sent_other client count p n differ =
 -- a client that is gone
 pub unsent_gone : (client : ℕ) (sessions : Sessions) (n : ℕ) → client ≢ n → unsent (without client sessions) n ≡ unsent sessions n
 unsent_gone client sessions n differ = ap output_of (without_other client n sessions differ)
+
+-- a client's output, if its proxy's stays when it is the one that changed; and if the proxies stay
+pub out_stays : (proxy : ℕ) (now : ProxyState) (old new : PoolState) → ProxyBecomes proxy now old new → (n : ℕ) → unsent now.sessions n ≡ unsent (proxy_at old proxy).sessions n
+    → output_of (session_of new n) ≡ output_of (session_of old n)
+out_stays proxy now old new becomes n same =
+    ap (λ (p : ℕ). output_of (session_at (proxy_at new p) n)) (home_becomes proxy now old new becomes n)
+    ∙ all_keep (λ (p : ProxyState). output_of (session_at p n)) proxy now old new becomes same (home_of old n)
+
+pub out_still : (old new : PoolState) → ProxiesStay old new → (n : ℕ) → output_of (session_of new n) ≡ output_of (session_of old n)
+out_still old new stay n = ap output_of (session_stays n old new stay)
 
 -- a client that takes all that was emitted, and then goes
 pub without_updated : (client : ℕ) (after : SessionState) (sessions : Sessions) → without client (updated client after sessions) ≡ without client sessions

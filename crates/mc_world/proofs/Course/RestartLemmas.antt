@@ -1,42 +1,44 @@
 -- A course holds after a server has restarted.
-use Rattle.std.proofs.Common.{◌≡◌, ◌≢◌, ◌∙◌, ⊎_elim, ℕ, suc, ◌<◌, inl, inr, true, List, [], ◌∷◌, ◌++◌, length, take, drop, slice_get, refl, sym, ap, ap₂, subst, append-nil, arith}
+use Rattle.std.proofs.Common.{◌≡◌, ◌≢◌, ◌∙◌, ⊎_elim, ℕ, zero, suc, ◌<◌, ◌≤◌, inl, inr, true, List, [], ◌∷◌, ◌++◌, length, take, drop, Some, slice_get, refl, sym, ap, ap₂, subst, append-nil, arith}
 use Rattle.std.proofs.lemmas.Bool.{cases_lt}
 use Rattle.std.proofs.lemmas.Bool.Decides.{eqb_tells}
-use Rattle.std.proofs.lemmas.List.{length-set, take_all}
+use Rattle.std.proofs.lemmas.List.{length-map, length-set, take_all}
 use Rattle.std.proofs.lemmas.Option.{none-some}
 use Rattle.mc_ring.specs.Rings.{IsRing, RingState}
 use Rattle.mc_cache.specs.CacheState.{CacheState}
 use Rattle.mc_cache_laws.specs.GoodCaches.{IsGoodCache}
 use Rattle.mc_proxy.specs.SessionState.{link_at}
-use Rattle.mc_proxy.specs.ProxyState.{ProxyState, session_at}
+use Rattle.mc_proxy.specs.ProxyState.{ProxyState}
 use Rattle.mc_account.specs.Orders.{Order}
 use Rattle.mc_account.proofs.OpenSessions.{other_number, own_number}
 use Rattle.mc_history.specs.Histories.{IsLegal}
 use Rattle.mc_history.specs.declared.entries.Entry.{Entry}
 use Rattle.mc_world.specs.declared.events.Event.TheVariants.{LinkLost}
-use Rattle.mc_world.specs.CourseHolds.{CourseHolds, HaveOneConnection, LivesHold}
+use Rattle.mc_world.specs.CourseHolds.{CourseHolds, LivesHold}
 use Rattle.mc_world.specs.LogHolds.{LogHolds, ServersHold}
-use Rattle.mc_world.specs.Logs.{IsRingAfter, Log, in_life, loses, number_of, restarts, serves, taken_before}
-use Rattle.mc_world.specs.Restarts.{HasServerRestarted, ServerRestarts, restarted}
-use Rattle.mc_world.specs.WorldState.{PoolState, SiteState, begun_of, histories_of}
+use Rattle.mc_world.specs.Logs.{IsRingAfter, Log, in_life, is_up, number_of, restarts, serves, taken_before}
+use Rattle.mc_world.specs.Restarts.{AreCut, HasServerRestarted, ServerRestarts, restarted}
+use Rattle.mc_world.specs.WorldState.{PoolState, SiteState, WayState, begun_of, histories_of, proxy_at, proxy_in}
 use Rattle.mc_world.specs.Worlds.{CourseState, put_out_of, taken_by, text_of}
 use Rattle.mc_world.specs.declared.logs.Logged.{Logged}
 use Rattle.mc_world.specs.declared.logs.Logged.TheVariants.{Restarted}
 use Rattle.mc_world.proofs.PoolEvents.CommandLemmas.{commands_accounted}
-use Rattle.mc_world.proofs.Course.DoneLemmas.{course_done, same_clients}
+use Rattle.mc_world.proofs.Course.DoneLemmas.{all_numbers, course_done, same_clients}
 use Rattle.mc_world.proofs.Course.GenerationStayLemmas.{generations_restart}
+use Rattle.mc_world.proofs.Course.NothingBeforeLemmas.{nothing_as}
+use Rattle.mc_world.proofs.Course.OutputLemmas.{out_still}
 use Rattle.mc_world.proofs.Log.LifeLemmas.{life_stays, sizes_of, taken_stays}
 use Rattle.mc_world.proofs.Log.CommandLemmas.{commands_still}
-use Rattle.mc_world.proofs.Log.EntryLemmas.{HasUntakenAt, begun_other, begun_own, got_inside, history_at, history_still, untaken_still}
+use Rattle.mc_world.proofs.Log.EntryLemmas.{HasUntakenAt, begun_other, begun_own, history_at, history_still, untaken_still}
 use Rattle.mc_world.proofs.Log.HistoryLemmas.{histories_go}
-use Rattle.mc_world.proofs.Log.LogLemmas.{before-last, number-none, number-one, ring-restart, stays_up, up-push}
+use Rattle.mc_world.proofs.Log.LogLemmas.{before-last, number-none, number-one, ring-restart, up-push}
 use Rattle.mc_world.proofs.Log.OutcomeLemmas.{goes_same}
 use Rattle.mc_world.proofs.Log.RequestLemmas.{answers_go, requests_go}
-use Rattle.mc_world.proofs.Course.OutputLemmas.{unsent}
+use Rattle.mc_world.proofs.Log.StillLemmas.{open_still}
 use Rattle.mc_world.proofs.PoolEvents.PoolLemmas.{pool_restarts, set_site}
 use Rattle.mc_world.proofs.SiteEvents.SiteLemmas.{get_none}
 
--- as many sites, with the same histories
+-- as many sites, with the same histories, and as many ways
 as_many_sites : (place : ℕ) (opening : CacheState) (old new : PoolState) → ServerRestarts place opening old new → length new.sites ≡ length old.sites
 as_many_sites place opening old new e = ap (λ (ss : List SiteState). length ss) e.sites ∙ length-set old.sites place (restarted opening e.site)
 
@@ -44,19 +46,33 @@ same_histories : (place : ℕ) (opening : CacheState) (old new : PoolState) → 
 same_histories place opening old new e other =
     ap (λ (ss : List SiteState). histories_of ss other) e.sites ∙ history_still old.sites place e.site (restarted opening e.site) e.at refl other
 
--- the ring and the links
+as_many_ways : (place : ℕ) (opening : CacheState) (old new : PoolState) → ServerRestarts place opening old new
+    → ((other : ℕ) (site : SiteState) → slice_get old.sites other ≡ Some site → length site.ways ≡ length old.proxies)
+    → (other : ℕ) (site : SiteState) → slice_get new.sites other ≡ Some site → length site.ways ≡ length new.proxies
+as_many_ways place opening old new e h other site at =
+    let many : length old.proxies ≡ length new.proxies = ap (λ (ps : List ProxyState). length ps) (sym e.proxies.proxies) in
+    ⊎_elim
+    (λ own. ap (λ (s : SiteState). length s.ways) own.1 ∙ length-map e.site.ways (λ (way : WayState). record way { ahead = 0 }) ∙ h place e.site e.at ∙ many)
+    (λ elsewhere. h other site elsewhere.1 ∙ many)
+    (set_site old.sites place (restarted opening e.site) other site (ap (λ (ss : List SiteState). slice_get ss other) (sym e.sites) ∙ at))
+
+-- the rings and the links
 servers_restart : (ring : RingState) (log : Log) (place : ℕ) (opening : CacheState) (old new : PoolState) → ServerRestarts place opening old new → ServersHold ring log old
     → ServersHold ring (log ++ Restarted place ∷ []) new
 servers_restart ring log place opening old new e h =
-    let sited = as_many_sites place opening old new e in
+    let proxies = sym e.proxies.proxies in
+    let sites = as_many_sites place opening old new e in
     record {
-      ring = subst (λ (p : ProxyState). IsRingAfter ring (log ++ Restarted place ∷ []) p.ring) (sym e.proxy) (ring-restart ring old.proxy.ring log place h.ring);
-      is_ring = subst (λ (p : ProxyState). IsRing p.ring) (sym e.proxy) h.is_ring;
-      linked = subst (λ (p : ProxyState). length p.links ≡ length p.ring.servers) (sym e.proxy) h.linked;
-      sited = sited ∙ h.sited ∙ ap (λ (p : ProxyState). length p.ring.servers) (sym e.proxy);
-      links = λ other inside.
-          up-push other true log (Restarted place) ∙ h.links other (omega (arith, inside, sited)) ∙ ap (λ (p : ProxyState). (link_at p.links other).up) (sym e.proxy);
-      no_links = λ other past. up-push other true log (Restarted place) ∙ h.no_links other (omega (arith, past, sited));
+      ring = subst (λ (ps : List ProxyState). (p : ℕ) → p < length ps → IsRingAfter p ring (log ++ Restarted place ∷ []) (proxy_in ps p).ring) proxies
+          (λ p inside. ring-restart p ring (proxy_at old p).ring log place (h.ring p inside));
+      is_ring = subst (λ (ps : List ProxyState). (p : ℕ) → p < length ps → IsRing (proxy_in ps p).ring) proxies h.is_ring;
+      linked = subst (λ (ps : List ProxyState). (p : ℕ) → length (proxy_in ps p).links ≡ length (proxy_in ps p).ring.servers) proxies h.linked;
+      sited = subst (λ (ps : List ProxyState). (p : ℕ) → length (proxy_in ps p).links ≤ length new.sites) proxies (λ p. let few = h.sited p in omega (arith, few, sites));
+      ways = as_many_ways place opening old new e h.ways;
+      links = subst (λ (ps : List ProxyState). (p q : ℕ) → q < length (proxy_in ps p).links → is_up p q (log ++ Restarted place ∷ []) ≡ (link_at (proxy_in ps p).links q).up) proxies
+          (λ p q inside. up-push p q true log (Restarted place) ∙ h.links p q inside);
+      no_links = subst (λ (ps : List ProxyState). (p q : ℕ) → length (proxy_in ps p).links ≤ q → is_up p q (log ++ Restarted place ∷ []) ≡ true) proxies
+          (λ p q past. up-push p q true log (Restarted place) ∙ h.no_links p q past);
     }
 
 -- the log leaves the pool so
@@ -66,29 +82,14 @@ log_restarts ring order outs log place opening old new e h =
     let same = same_histories place opening old new e in
     record {
       servers = servers_restart ring log place opening old new e h.servers;
-      requests = requests_go ring (length old.sites) (length new.sites) order order log (Restarted place) (as_many_sites place opening old new e) refl (goes_same order) h.requests;
-      answers = answers_go order order outs log (Restarted place) old.proxy new.proxy (λ c. refl) (λ client count out k. k)
-          (λ client session at. (session, ap (λ (p : ProxyState). session_at p client) (sym e.proxy) ∙ at, refl)) h.answers;
+      requests = requests_go ring order order log (Restarted place) old new e.proxies.homes
+          (λ p. let many = ap (λ (ps : List ProxyState). length (proxy_in ps p).links) e.proxies.proxies in omega (arith, many)) refl (goes_same order) h.requests;
+      answers = answers_go order order outs log (Restarted place) old new (λ c. refl) (λ client count out k. k) (open_still old new e.proxies) h.answers;
       histories = histories_go order order log (Restarted place) (histories_of old.sites) (histories_of new.sites) (λ p. refl) (λ tag lost. lost) same h.histories;
-      commands = commands_still ring (length old.sites) order log (Restarted place) old.sites new.sites h.requests same
+      commands = commands_still ring order log (Restarted place) old new e.proxies.homes h.requests same
           (λ p tag has. untaken_still old.sites place e.site (restarted opening e.site) e.at (λ t u. absurd (none-some u.way (sym (get_none u.i) ∙ u.way_at))) p tag
           (subst (λ (ss : List SiteState). HasUntakenAt ss p tag) e.sites has)) h.commands;
     }
-
--- a server that restarts has lost its link
-was_lost : (ring : RingState) (opening : CacheState) (place : ℕ) (old : CourseState) (new : PoolState) → CourseHolds ring opening old → ServerRestarts place opening old.pool new
-    → number_of (loses place) old.log ≡ 0 → ⊥
-was_lost ring opening place old new h e never =
-    e.down (sym (h.log.servers.links place (got_inside old.pool.sites place e.site e.at)) ∙ stays_up place old.log never)
-
-connections_restart : (ring : RingState) (opening : CacheState) (place : ℕ) (old : CourseState) (new : PoolState) → CourseHolds ring opening old
-    → ServerRestarts place opening old.pool new → HaveOneConnection (old.log ++ Restarted place ∷ []) new
-connections_restart ring opening place old new h e other site at never =
-    let none : number_of (loses other) old.log ≡ 0 = sym (number-none (loses other) old.log (Restarted place) refl) ∙ never in
-    ⊎_elim
-    (λ own. absurd (was_lost ring opening place old new h e (ap (λ (p : ℕ). number_of (loses p) old.log) own.0 ∙ none)))
-    (λ elsewhere. h.connections other site elsewhere.1 none)
-    (set_site old.pool.sites place (restarted opening e.site) other site (ap (λ (ss : List SiteState). slice_get ss other) (sym e.sites) ∙ at))
 
 -- a life that had ended before
 ended_before : (opening : CacheState) (order : Order) (log : Log) (x : Logged) (sites : List SiteState) (place life : ℕ)
@@ -142,10 +143,6 @@ lives_restart ring opening place old new h e =
           ∙ sym (ap (λ (n : ℕ). taken_before other n (old.log ++ Restarted place ∷ [])) (still other differ.1)
           ∙ taken_stays other (number_of (restarts other) old.log) old.log (Restarted place) (omega arith)))
           (eqb_tells place other);
-      first = λ other never. let none : number_of (loses other) old.log ≡ 0 = sym (number-none (loses other) old.log (Restarted place) refl) ∙ never in ⊎_elim
-          (λ own. absurd (was_lost ring opening place old new h e (ap (λ (p : ℕ). number_of (loses p) old.log) own.1 ∙ none)))
-          (λ differ. kept other differ.1 ∙ h.lives.first other none)
-          (eqb_tells place other);
       ended = λ other life early.
           subst (λ (es : List Entry). IsLegal h.order other opening (in_life other life (old.log ++ Restarted place ∷ []) es)) (sym (same other))
           (⊎_elim
@@ -156,25 +153,30 @@ lives_restart ring opening place old new h e =
           (eqb_tells place other));
     }
 
--- the course holds, if the link was down
+-- the course holds, if no link was up
 down_restarts : (ring : RingState) (opening : CacheState) (place : ℕ) (old new : CourseState) → IsGoodCache opening → CourseHolds ring opening old
     → ServerRestarts place opening old.pool new.pool → new.clients ≡ old.clients → new.log ≡ old.log ++ Restarted place ∷ [] → CourseHolds ring opening new
 down_restarts ring opening place old new good h e clients log =
-    same_clients ring opening h.order h.lanes old new clients
-    (λ n. ap (λ (p : ProxyState). unsent p.sessions n) e.proxy) (ap (λ (p : ProxyState). p.admitted) e.proxy) h.numbered
+    same_clients ring opening h.order h.lanes old new clients (out_still old.pool new.pool e.proxies) (all_numbers old.pool new.pool e.proxies) h.numbered
     (pool_restarts opening (text_of old) (taken_by old) h.order h.lanes place old.pool new.pool good e h.pool)
     (subst (λ (l : Log). LogHolds ring h.order (put_out_of old) l new.pool) (sym log)
     (log_restarts ring h.order (put_out_of old) old.log place opening old.pool new.pool e h.log))
     (generations_restart place opening old.pool new.pool e h.generations)
-    (subst (λ (l : Log). HaveOneConnection l new.pool) (sym log) (connections_restart ring opening place old new.pool h e))
+    (nothing_as old.pool new.pool h.order h.lanes h.lanes old.log new.log (Restarted place) e.proxies.homes log (λ p q. refl) h.nothing_before)
     (subst (λ (l : Log). LivesHold opening h.order l new.pool.sites) (sym log) (lives_restart ring opening place old new.pool h e))
+
+-- it holds after the links to the server are lost
+cut_holds : (ring : RingState) (opening : CacheState) (proxies place : ℕ) (old new : CourseState) → CourseHolds ring opening old → AreCut proxies place old new → CourseHolds ring opening new
+cut_holds ring opening zero place old new h cut = subst (λ (c : CourseState). CourseHolds ring opening c) (sym cut) h
+cut_holds ring opening (suc proxy) place old new h cut =
+    let mid = cut_holds ring opening proxy place old cut.0 h cut.1 in
+    elim cut.2 [
+      | inl lost ↦ course_done ring opening (LinkLost proxy place) cut.0 new mid lost.1
+      | inr still ↦ subst (λ (c : CourseState). CourseHolds ring opening c) (sym still.1) mid
+    ]
 
 -- the course holds
 pub course_restarts : (ring : RingState) (opening : CacheState) (place : ℕ) (old new : CourseState) → IsGoodCache opening → CourseHolds ring opening old
     → HasServerRestarted place opening old new → CourseHolds ring opening new
 course_restarts ring opening place old new good h e =
-    let cut : CourseHolds ring opening e.cut = elim e.loses [
-      | inl lost ↦ course_done ring opening (LinkLost place) old e.cut h lost.1
-      | inr still ↦ subst (λ (c : CourseState). CourseHolds ring opening c) (sym still.1) h
-    ] in
-    down_restarts ring opening place e.cut new good cut e.pool e.clients e.log
+    down_restarts ring opening place e.cut new good (cut_holds ring opening (length old.pool.proxies) place old e.cut h e.loses) e.pool e.clients e.log

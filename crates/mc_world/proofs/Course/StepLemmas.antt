@@ -5,23 +5,28 @@ use Rattle.mc_ring.specs.Rings.{IsRing, RingState}
 use Rattle.mc_route.specs.declared.losses.Losses.{Losses}
 use Rattle.mc_cache.specs.CacheState.{CacheState, IsWithinBounds, opening_cache}
 use Rattle.mc_cache_laws.proofs.GoodStepLemmas.{opening_is_good}
+use Rattle.mc_world.specs.Accounts.{Account}
 use Rattle.mc_world.specs.Courses.{Applies, CourseServes, IsDone}
 use Rattle.mc_world.specs.CourseHolds.{CourseHolds, WorldHolds}
 use Rattle.mc_world.specs.Happens.{Does}
-use Rattle.mc_world.specs.Joins.{HasServerJoined}
+use Rattle.mc_world.specs.Homes.{home_in}
+use Rattle.mc_world.specs.Joins.{HasLearnedServer, HasServerJoined}
 use Rattle.mc_world.specs.Restarts.{HasServerRestarted}
 use Rattle.mc_world.specs.Steps.{GivesAccount, IsTried, RunsTo, StepsTo}
-use Rattle.mc_world.specs.Worlds.{CourseState, WorldState, cache_of, world_opened}
+use Rattle.mc_world.specs.WorldState.{home_of}
+use Rattle.mc_world.specs.Worlds.{CourseState, WorldState, cache_of, history_of, homes_from, put_out_of, text_of, world_opened}
 use Rattle.mc_world.specs.declared.errors.Step.{Step}
 use Rattle.mc_world.specs.declared.errors.Step.TheVariants.{Done, Nothing}
 use Rattle.mc_world.specs.declared.errors.WorldError.{WorldError}
 use Rattle.mc_world.specs.declared.events.Event.{Event}
 use Rattle.mc_world.proofs.Course.DoneLemmas.{course_done, is_there}
+use Rattle.mc_world.proofs.Course.HomeLemmas.{runs_homes}
 use Rattle.mc_world.proofs.Course.JoinLemmas.{course_joins}
+use Rattle.mc_world.proofs.Course.LearnLemmas.{course_learns}
 use Rattle.mc_world.proofs.Course.RestartLemmas.{course_restarts}
 use Rattle.mc_world.proofs.Course.RunLemmas.{course_accounts}
 use Rattle.mc_world.proofs.SiteEvents.ServingLemmas.{pool_serves}
-use Rattle.mc_world.proofs.Course.WorldOpeningLemmas.{course_opens}
+use Rattle.mc_world.proofs.Course.WorldOpeningLemmas.{course_opens, opening_losses}
 
 -- one more event was tried
 pub runs-more : (events : List (Event (List ℕ))) (event : Event (List ℕ)) (old mid new : CourseState) (n m : ℕ) → RunsTo events old mid n → IsTried event mid new m
@@ -47,11 +52,36 @@ course_steps ring opening event Done old new h does = course_done ring opening e
 course_steps ring opening event Nothing old new h does = subst (λ (c : CourseState). CourseHolds ring opening c) (sym does) h
 
 -- a world that was just opened holds, and each that holds gives account
-pub world_opens : (losses : Losses) (ring : RingState) (clients budget items : ℕ) → IsRing ring → IsWithinBounds budget items → WorldHolds (world_opened losses ring clients budget items)
-world_opens losses ring clients budget items is_ring bounds = record { bounds = bounds; losses = refl; course = course_opens losses ring clients budget items is_ring bounds.some_items }
+pub world_opens : (losses : Losses) (ring : RingState) (clients : List ℕ) (budget items : ℕ) → IsRing ring → IsWithinBounds budget items
+    → WorldHolds (world_opened losses ring clients budget items)
+world_opens losses ring clients budget items is_ring bounds = record {
+  bounds = bounds;
+  losses = opening_losses losses (opening_cache budget items 0) ring clients;
+  course = course_opens losses ring clients budget items is_ring bounds.some_items;
+}
 
 pub world_accounts : (w : WorldState) → WorldHolds w → GivesAccount w
 world_accounts w h = course_accounts w.losses w.opening (cache_of w) w.course h.course h.losses
+
+-- the account of a world that was run since its opening has what it was opened with, and each client's proxy as its number gives it
+pub run_accounts : (losses : Losses) (ring : RingState) (clients : List ℕ) (budget items : ℕ) (events : List (Event (List ℕ))) (old new : WorldState) (refusals : ℕ)
+    → old ≡ world_opened losses ring clients budget items → RunsTo events old.course new.course refusals
+    → (new.opening ≡ old.opening) × (new.budget ≡ old.budget) × (new.items ≡ old.items) × (new.losses ≡ old.losses) → GivesAccount new
+    → Account (home_in (homes_from 0 clients)) losses ring (opening_cache budget items 0) (text_of new.course) (put_out_of new.course) (history_of new.course) new.course.log
+run_accounts losses ring clients budget items events old new refusals opened runs same account =
+    let course = new.course in
+    let homes_are : new.course.pool.homes ≡ homes_from 0 clients =
+    runs_homes events old.course new.course refusals runs ∙ ap (λ (w : WorldState). w.course.pool.homes) opened in
+    let ring_is : new.opening ≡ ring = same.0 ∙ ap (λ (w : WorldState). w.opening) opened in
+    let budget_is : new.budget ≡ budget = same.1 ∙ ap (λ (w : WorldState). w.budget) opened in
+    let items_is : new.items ≡ items = same.2 ∙ ap (λ (w : WorldState). w.items) opened in
+    let losses_are : new.losses ≡ losses = same.3 ∙ ap (λ (w : WorldState). w.losses) opened in
+    subst (λ (homes : List ℕ). Account (home_in homes) losses ring (opening_cache budget items 0) (text_of course) (put_out_of course) (history_of course) course.log) homes_are
+    (subst (λ (l : Losses). Account (home_of course.pool) l ring (opening_cache budget items 0) (text_of course) (put_out_of course) (history_of course) course.log) losses_are
+    (subst (λ (r : RingState). Account (home_of course.pool) new.losses r (opening_cache budget items 0) (text_of course) (put_out_of course) (history_of course) course.log) ring_is
+    (subst (λ (n : ℕ). Account (home_of course.pool) new.losses new.opening (opening_cache n items 0) (text_of course) (put_out_of course) (history_of course) course.log) budget_is
+    (subst (λ (n : ℕ). Account (home_of course.pool) new.losses new.opening (opening_cache new.budget n 0) (text_of course) (put_out_of course) (history_of course) course.log) items_is
+    account))))
 
 -- after a step that may have been refused
 pub course_stepped : (ring : RingState) (opening : CacheState) (event : Event (List ℕ)) (r : Result Step WorldError) (old new : CourseState) → CourseHolds ring opening old
@@ -72,14 +102,20 @@ answer_mapped P Bad (Err e) (Ok step) cases same told = absurd cc
 answer_mapped P Bad (Err e) (Err other) cases same told = tt
 
 -- after a join that may have been refused
-pub course_joined : {T E : Type 0} (ring : RingState) (budget items : ℕ) (address : List ℕ) (cache : CacheState) (r : Result T E) (old new : CourseState) → IsWithinBounds budget items
-    → cache ≡ opening_cache budget items 0 → CourseHolds ring (opening_cache budget items 0) old → OnOk r (HasServerJoined address cache old new) → OnErr r (new ≡ old)
+pub course_joined : {T E : Type 0} (ring : RingState) (budget items proxy : ℕ) (address : List ℕ) (cache : CacheState) (r : Result T E) (old new : CourseState) → IsWithinBounds budget items
+    → cache ≡ opening_cache budget items 0 → CourseHolds ring (opening_cache budget items 0) old → OnOk r (HasServerJoined proxy address cache old new) → OnErr r (new ≡ old)
     → CourseHolds ring (opening_cache budget items 0) new
-course_joined ring budget items address cache (Ok value) old new bounds opens h joined refused =
-    course_joins ring (opening_cache budget items 0) address old new (opening_is_good budget items 0 bounds.some_items (omega arith)) h
-    (subst (λ (s : CacheState). HasServerJoined address s old new) opens joined)
-course_joined ring budget items address cache (Err e) old new bounds opens h joined refused =
+course_joined ring budget items proxy address cache (Ok value) old new bounds opens h joined refused =
+    course_joins ring (opening_cache budget items 0) proxy address old new (opening_is_good budget items 0 bounds.some_items (omega arith)) h
+    (subst (λ (s : CacheState). HasServerJoined proxy address s old new) opens joined)
+course_joined ring budget items proxy address cache (Err e) old new bounds opens h joined refused =
     subst (λ (c : CourseState). CourseHolds ring (opening_cache budget items 0) c) (sym refused) h
+
+-- after a proxy has learned a server, or was refused
+pub course_learned : {T E : Type 0} (ring : RingState) (opening : CacheState) (proxy : ℕ) (address : List ℕ) (r : Result T E) (old new : CourseState)
+    → CourseHolds ring opening old → OnOk r (HasLearnedServer proxy address old new) → OnErr r (new ≡ old) → CourseHolds ring opening new
+course_learned ring opening proxy address (Ok value) old new h learned refused = course_learns ring opening proxy address old new h learned
+course_learned ring opening proxy address (Err e) old new h learned refused = subst (λ (c : CourseState). CourseHolds ring opening c) (sym refused) h
 
 -- after a restart that may have been refused
 pub course_restarted : {T E : Type 0} (ring : RingState) (budget items place : ℕ) (cache : CacheState) (r : Result T E) (old new : CourseState) → IsWithinBounds budget items

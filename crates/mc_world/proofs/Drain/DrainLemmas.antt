@@ -1,12 +1,11 @@
 -- Parts of a drain.
-use Rattle.std.proofs.Common.{◌≡◌, ◌∙◌, ⊎_elim, ℕ, ◌+◌, ◌<◌, Bool, true, false, ◌||◌, nat_lt, List, [], ◌∷◌, ◌++◌, length, Option, Some, slice_get, refl, sym, ap, subst, arith}
+use Rattle.std.proofs.Common.{◌≡◌, ◌∙◌, ⊎_elim, ℕ, ◌+◌, ◌<◌, Bool, true, false, ◌||◌, nat_lt, List, [], ◌∷◌, ◌++◌, length, Option, slice_get, refl, sym, ap, subst, arith}
 use Rattle.std.specs.List.{list_all}
 use Rattle.std.proofs.lemmas.Bool.{and_from, and_parts, ltb-false, ltb-true}
 use Rattle.mc_ring.specs.Rings.{RingState}
 use Rattle.mc_link.specs.LinkState.{LinkState}
 use Rattle.mc_cache.specs.CacheState.{CacheState}
-use Rattle.mc_proxy.specs.SessionState.{link_at}
-use Rattle.mc_proxy.specs.ProxyState.{output_of as output_at, session_at}
+use Rattle.mc_proxy.specs.ProxyState.{output_of as output_at}
 use Rattle.mc_account.proofs.OpenSessions.{own_number}
 use Rattle.mc_world.specs.Acts.{GoesOn, HasDrained, IsIdle, IsOver, coming_of, event_of, generation_of}
 use Rattle.mc_world.specs.Courses.{Applies, IsDone}
@@ -14,72 +13,61 @@ use Rattle.mc_world.specs.CourseHolds.{CourseHolds, WorldHolds}
 use Rattle.mc_world.specs.Drains.{AreDone, is_of_drain}
 use Rattle.mc_world.specs.Steps.{StepsTo}
 use Rattle.mc_world.specs.WorkLeft.{work_left}
-use Rattle.mc_world.specs.WorldState.{PoolState, SiteState}
+use Rattle.mc_world.specs.WorldState.{PoolState, SiteState, link_of, session_of}
 use Rattle.mc_world.specs.Worlds.{CourseState, WorldState, cache_of}
 use Rattle.mc_world.specs.declared.acts.Act.{Act}
 use Rattle.mc_world.specs.declared.acts.Act.TheVariants.{PutAnswer, ReachProxy, ReachServer, SeeEnd, Serve, TakeBytes, TakeReply, TakeRequest}
 use Rattle.mc_world.specs.declared.errors.Step.TheVariants.{Done}
 use Rattle.mc_world.specs.declared.events.Event.{Event}
 use Rattle.mc_world.proofs.Drain.LessLemmas.{ended_less, late_less, put_out_less, reached_less, replied_less, returned_less, served_less, taken_less, took_less}
-use Rattle.mc_world.proofs.Log.EntryLemmas.{got_inside}
+use Rattle.mc_world.proofs.Drain.WorkLemmas.{up_inside}
 use Rattle.mc_world.proofs.SiteEvents.ServingLemmas.{pool_serves}
 
--- each server has a link
-linked : (ring : RingState) (opening : CacheState) (c : CourseState) → CourseHolds ring opening c → (place : ℕ) (site : SiteState) → slice_get c.pool.sites place ≡ Some site
-    → place < length c.pool.proxy.links
-linked ring opening c h place site at =
-    let inside = got_inside c.pool.sites place site at in
-    let linked = h.log.servers.linked in
-    let sited = h.log.servers.sited in
-    omega (arith, inside, linked, sited)
-
 -- a link that is down has nothing for its server
-down_none : (ring : RingState) (opening : CacheState) (c : CourseState) → CourseHolds ring opening c → (place : ℕ) → (link_at c.pool.proxy.links place).up ≡ false
-    → (link_at c.pool.proxy.links place).output ≡ []
-down_none ring opening c h place down =
-    ap (λ (l : LinkState). l.output) ((h.pool.proxy.links place).1 (λ up. let clash : false ≡ true = sym down ∙ up in absurd cc)).nothing
+down_none : (ring : RingState) (opening : CacheState) (c : CourseState) → CourseHolds ring opening c → (proxy place : ℕ) → (link_of c.pool proxy place).up ≡ false
+    → (link_of c.pool proxy place).output ≡ []
+down_none ring opening c h proxy place down =
+    ap (λ (l : LinkState). l.output) (((h.pool.proxies proxy).links place).1 (λ up. let clash : false ≡ true = sym down ∙ up in absurd cc)).nothing
 
 -- each act that is done leaves less to do
 pub done_less : (ring : RingState) (opening : CacheState) (act : Act) (moment : ℕ) (old new : CourseState) → CourseHolds ring opening old → Applies (event_of act moment old.pool) old.pool
     → IsDone (event_of act moment old.pool) old new → work_left new.pool < work_left old.pool
-done_less ring opening (SeeEnd place) moment old new h applies done =
-    let ended = done.pool in
-    ended_less place ended.0 old.pool new.pool (linked ring opening old h place ended.1.there.site ended.1.there.at) ended.1
+done_less ring opening (SeeEnd place) moment old new h applies done = let ended = done.pool in ended_less place ended.0 old.pool new.pool ended.1
 done_less ring opening (TakeRequest client) moment old new h applies done = took_less client old.pool new.pool done.pool
-done_less ring opening (ReachServer place) moment old new h applies done =
-    let some : 0 < length (link_at old.pool.proxy.links place).output = ⊎_elim (λ own. own.1.1.0) (λ late. late.1.moves.0) applies in
+done_less ring opening (ReachServer proxy place) moment old new h applies done =
+    let some : 0 < length (link_of old.pool proxy place).output = ⊎_elim (λ own. own.1.1.0) (λ late. late.1.moves.0) applies in
     ⊎_elim
-    (λ living. reached_less place (length (link_at old.pool.proxy.links place).output) old.pool new.pool (linked ring opening old h place living.0.there.site living.0.there.at) refl some living.0)
-    (λ late. (elim (link_at old.pool.proxy.links place).up as (λ v. (link_at old.pool.proxy.links place).up ≡ v → work_left new.pool < work_left old.pool) [
-      | true ↦ λ up. absurd (late.3 (record { site = late.1.there.site; at = late.1.there.at; is = sym (ap generation_of late.1.there.at); up = up }))
-      | false ↦ λ down. let none : length (link_at old.pool.proxy.links place).output ≡ 0 = ap (λ (bytes : List ℕ). length bytes) (down_none ring opening old h place down) in absurd (omega (arith, some, none))
+    (λ living. reached_less proxy place (length (link_of old.pool proxy place).output) old.pool new.pool refl some living.0)
+    (λ late. (elim (link_of old.pool proxy place).up as (λ v. (link_of old.pool proxy place).up ≡ v → work_left new.pool < work_left old.pool) [
+      | true ↦ λ up. absurd (late.3 (record { site = late.1.there.site; at = late.1.there.at; is = sym (ap (λ (o : Option SiteState). generation_of proxy o) late.1.there.at); up = up }))
+      | false ↦ λ down. let none : length (link_of old.pool proxy place).output ≡ 0 = ap (λ (bytes : List ℕ). length bytes) (down_none ring opening old h proxy place down) in absurd (omega (arith, some, none))
     ]) refl)
     done.pool
-done_less ring opening (Serve place) moment old new h applies done =
+done_less ring opening (Serve proxy place) moment old new h applies done =
     ⊎_elim
-    (λ living. served_less place moment old.pool new.pool (linked ring opening old h place living.0.there.site living.0.there.at) living.0)
-    (λ late. (elim (link_at old.pool.proxy.links place).up as (λ v. (link_at old.pool.proxy.links place).up ≡ v → work_left new.pool < work_left old.pool) [
-      | true ↦ λ up. absurd (late.3 (record { site = late.1.there.site; at = late.1.there.at; is = sym (ap generation_of late.1.there.at); up = up }))
-      | false ↦ λ down. late_less place late.0 moment old.pool new.pool (linked ring opening old h place late.1.there.site late.1.there.at) down late.1
-    ]) refl)
+    (λ living.
+    let there = living.0.there in
+    let holds = h.pool.sites place there.site there.at in
+    let inside = up_inside old.pool proxy place there.up in
+    let ways = h.log.servers.ways place there.site there.at in
+    served_less proxy place moment old.pool new.pool living.0 (omega (arith, inside, ways)) (λ q differ up. holds.apart_ways proxy q there.up up (λ same. differ (sym same))))
+    (λ late. late_less place late.0 moment old.pool new.pool late.1
+    (λ q up. (h.pool.sites place late.1.there.site late.1.there.at).apart_living q up late.0 late.1.enters.way late.1.enters.way_at))
     done.pool.1
-done_less ring opening (ReachProxy place) moment old new h applies done =
-    let back = done.pool in
-    returned_less place (length (coming_of (slice_get old.pool.sites place))) old.pool new.pool (linked ring opening old h place back.there.site back.there.at)
-    (λ site at. ap (λ (o : Option SiteState). length (coming_of o)) at) applies.moves.0 back
-done_less ring opening (TakeReply place) moment old new h applies done =
-    let replied = done.pool in
-    replied_less place old.pool new.pool (linked ring opening old h place replied.there.site replied.there.at) (pool_serves ring opening old h) replied
+done_less ring opening (ReachProxy proxy place) moment old new h applies done =
+    returned_less proxy place (length (coming_of proxy (slice_get old.pool.sites place))) old.pool new.pool
+    (λ site at. ap (λ (o : Option SiteState). length (coming_of proxy o)) at) applies.moves.0 done.pool
+done_less ring opening (TakeReply proxy place) moment old new h applies done = replied_less proxy place old.pool new.pool (pool_serves ring opening old h) done.pool
 done_less ring opening (PutAnswer client) moment old new h applies done = put_out_less client old.pool new.pool done.pool
 done_less ring opening (TakeBytes client) moment old new h applies done =
-    taken_less client (length (output_at (session_at old.pool.proxy client))) old.pool new.pool done.pool.0.0 done.pool.0.1 refl applies.0 done.pool.1
+    taken_less client (length (output_at (session_of old.pool client))) old.pool new.pool done.pool.0.0 done.pool.0.1 refl applies.0 done.pool.1
 
 -- events followed by events
-done_append : (es fs : List (Event (List ℕ))) (a b c : CourseState) → AreDone es a b → AreDone fs b c → AreDone (es ++ fs) a c
+pub done_append : (es fs : List (Event (List ℕ))) (a b c : CourseState) → AreDone es a b → AreDone fs b c → AreDone (es ++ fs) a c
 done_append [] fs a b c first second = subst (λ (x : CourseState). AreDone fs x c) first second
 done_append (e ∷ es) fs a b c first second = (first.0, first.1, done_append es fs first.0 b c first.2 second)
 
-all_append : (p : Event (List ℕ) → Bool) (es fs : List (Event (List ℕ))) → list_all p es ≡ true → list_all p fs ≡ true → list_all p (es ++ fs) ≡ true
+pub all_append : (p : Event (List ℕ) → Bool) (es fs : List (Event (List ℕ))) → list_all p es ≡ true → list_all p fs ≡ true → list_all p (es ++ fs) ≡ true
 all_append p [] fs first second = second
 all_append p (e ∷ es) fs first second =
     let parts = and_parts (p e) (list_all p es) first in
@@ -128,10 +116,10 @@ over_as moment One Two did a b tells over = record { goes = over.goes; idle = λ
 act_is : (act : Act) (moment : ℕ) (pool : PoolState) → is_of_drain moment (event_of act moment pool) ≡ true
 act_is (SeeEnd place) moment pool = refl
 act_is (TakeRequest client) moment pool = refl
-act_is (ReachServer place) moment pool = refl
-act_is (Serve place) moment pool = own_number moment
-act_is (ReachProxy place) moment pool = refl
-act_is (TakeReply place) moment pool = refl
+act_is (ReachServer proxy place) moment pool = refl
+act_is (Serve proxy place) moment pool = own_number moment
+act_is (ReachProxy proxy place) moment pool = refl
+act_is (TakeReply proxy place) moment pool = refl
 act_is (PutAnswer client) moment pool = refl
 act_is (TakeBytes client) moment pool = refl
 

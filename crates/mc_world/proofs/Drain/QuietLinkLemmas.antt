@@ -16,8 +16,9 @@ use Rattle.mc_account.specs.Lanes.{CanHave, Lane, LaneHolds, as_waiting, replies
 use Rattle.mc_account.specs.Orders.{Order, Tagged}
 use Rattle.mc_history.specs.Made.{Made, commands_on, made_on, read_as, replies_on}
 use Rattle.mc_history.proofs.GenerationLemmas.{carried}
+use Rattle.mc_world.specs.Homes.{Homes, of_proxy}
 use Rattle.mc_world.specs.Sites.{SiteHolds}
-use Rattle.mc_world.specs.WorldState.{SiteState}
+use Rattle.mc_world.specs.WorldState.{SiteState, way_by}
 use Rattle.mc_world.proofs.SiteEvents.SiteLemmas.{joined}
 
 -- if no byte can be moved there is none
@@ -45,21 +46,26 @@ waiting_none (c ∷ cs) (r ∷ rs) link waits unread can sizes never =
       others = refl;
     }))
 
--- On a living generation no byte moves, its server takes nothing and its proxy takes no reply: then no command is pending on
+-- On a living generation of a proxy no byte moves, its server takes nothing and its proxy takes no reply: then no command is pending on
 -- its link.
-pub living_none : (place : ℕ) (order : Order) (lane : Lane) (link : LinkState) (opening : CacheState) (site : SiteState) → link.up ≡ true
-    → SiteHolds place order lane link opening site → LaneHolds place order lane link → link.output ≡ [] → output_of (connection_at site.server site.connection) ≡ []
-    → (0 < length (waiting_of (connection_at site.server site.connection)) → ⊥)
-    → ((tag : Tag) (reply : AReply (List ℕ)) (after : LinkState) → Takes link tag reply after → ⊥) → link.waiting ≡ []
-living_none place order lane link opening site up h holds no_output no_coming unserved never =
-    let living = h.living up in
-    let is_joined = joined place order lane link opening site up h holds in
-    let carries = carried place order lane link opening h.made site.connection living.end living.others is_joined in
-    let sizes : length (sent_on place order lane) ≡ length (commands_on site.connection h.made ++ living.others) = ap (λ (cs : List Tagged). length cs) living.commands in
-    let given : length (replies_on site.connection h.made) ≡ length lane.replies + length carries.front.later =
+pub living_none : (home : Homes) (proxy place : ℕ) (order : Order) (lanes : ℕ → Lane) (links : ℕ → LinkState) (opening : CacheState) (site : SiteState) → (links proxy).up ≡ true
+    → SiteHolds home place order lanes links opening site → LaneHolds place (of_proxy home proxy order) (lanes proxy) (links proxy) → (links proxy).output ≡ []
+    → output_of (connection_at site.server (way_by site proxy).connection) ≡ []
+    → (0 < length (waiting_of (connection_at site.server (way_by site proxy).connection)) → ⊥)
+    → ((tag : Tag) (reply : AReply (List ℕ)) (after : LinkState) → Takes (links proxy) tag reply after → ⊥) → (links proxy).waiting ≡ []
+living_none home proxy place order lanes links opening site up h holds no_output no_coming unserved never =
+    let own = of_proxy home proxy order in
+    let lane = lanes proxy in
+    let link = links proxy in
+    let number = (way_by site proxy).connection in
+    let living = h.living proxy up in
+    let is_joined = joined home proxy place order lanes links opening site up h holds in
+    let carries = carried place own lane link opening h.made number living.end living.others is_joined in
+    let sizes : length (sent_on place own lane) ≡ length (commands_on number h.made ++ living.others) = ap (λ (cs : List Tagged). length cs) living.commands in
+    let given : length (replies_on number h.made) ≡ length lane.replies + length carries.front.later =
     ap (λ (rs : List (AReply (List ℕ))). length rs) carries.front.all_is ∙ length-append lane.replies carries.front.later in
-    let both : length (replies_on site.connection h.made) ≡ length (commands_on site.connection h.made) =
-    length-map (made_on site.connection h.made) (λ (m : Made). m.reply) ∙ sym (length-map (made_on site.connection h.made) (λ (m : Made). m.command)) in
+    let both : length (replies_on number h.made) ≡ length (commands_on number h.made) =
+    length-map (made_on number h.made) (λ (m : Made). m.reply) ∙ sym (length-map (made_on number h.made) (λ (m : Made). m.command)) in
     let read : length (rest_of living.end.reader []) ≡ length (map read_as living.others ++ requests_of []) =
     ap (λ (bytes : List ℕ). length (rest_of living.end.reader bytes)) (sym (append-nil link.output ∙ no_output)) ∙ ap (λ (ts : List Parsed). length ts) (carries.reads []) in
     let unread_none : 0 < length (rest_of living.end.reader []) → ⊥ = λ some. unserved (subst (λ (o : _). 0 < length (waiting_of o)) (sym living.is_open) some) in
@@ -67,9 +73,9 @@ living_none place order lane link opening site up h holds no_output no_coming un
       | [] ↦ λ e none. omega (arith, e, length-append (map read_as living.others) (requests_of []), length-map living.others read_as)
       | t ∷ ts ↦ λ e none. absurd (none (omega arith))
     ]) read unread_none in
-    let dropped = length-drop (length lane.replies) (sent_on place order lane) in
+    let dropped = length-drop (length lane.replies) (sent_on place own lane) in
     let end_output : living.end.output ≡ [] = subst (λ (o : _). output_of o ≡ []) living.is_open no_coming in
-    let unread : link.unread ≡ replies_text (drop (length lane.replies) (sent_on place order lane)) carries.front.later =
+    let unread : link.unread ≡ replies_text (drop (length lane.replies) (sent_on place own lane)) carries.front.later =
     sym (append-nil link.unread) ∙ ap (λ (bytes : List ℕ). link.unread ++ bytes) (sym end_output) ∙ carries.front.bytes_are in
-    waiting_none (drop (length lane.replies) (sent_on place order lane)) carries.front.later link holds.waiting unread carries.front.can
-    (omega (arith, sizes, given, both, no_others, dropped, length-append (commands_on site.connection h.made) living.others)) never
+    waiting_none (drop (length lane.replies) (sent_on place own lane)) carries.front.later link holds.waiting unread carries.front.can
+    (omega (arith, sizes, given, both, no_others, dropped, length-append (commands_on number h.made) living.others)) never

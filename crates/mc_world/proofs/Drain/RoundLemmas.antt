@@ -14,7 +14,7 @@ use Rattle.mc_world.specs.declared.events.Event.{Event}
 use Rattle.mc_world.specs.declared.events.Event.TheVariants.{ClientBytes, ClientGone, ClientTakes, Emit, LinkBack, LinkLost, ProxyTurn, ReplyTurn, ServerSeesEnd, ServerTurn, ToProxy, ToServer}
 use Rattle.mc_world.proofs.Log.EntryLemmas.{got_inside}
 use Rattle.mc_world.proofs.PoolEvents.PoolLemmas.{set_site}
-use Rattle.mc_world.proofs.Drain.RestLemmas.{first_lost}
+use Rattle.mc_world.proofs.Drain.RestLemmas.{lost_first}
 use Rattle.mc_world.proofs.SiteEvents.SiteLemmas.{get_none}
 
 -- this was done a number of times
@@ -63,33 +63,33 @@ one_ended place site now old new at keeps sites k h s at_s =
     (λ elsewhere. h s elsewhere.1)
     (set_site old.sites place now k s (ap (λ (ss : List SiteState). slice_get ss k) (sym sites) ∙ at_s))
 
-there_ended : (place : ℕ) (old new : PoolState) → (there : AtSite place old new) → there.now.lost ≡ there.site.lost → (k : ℕ) → HasNoLost k old → HasNoLost k new
-there_ended place old new there same k h = one_ended place there.site there.now old new there.at (λ none. same ∙ none) there.sites k h
+there_ended : (proxy place : ℕ) (old new : PoolState) → (there : AtSite proxy place old new) → there.now.lost ≡ there.site.lost → (k : ℕ) → HasNoLost k old → HasNoLost k new
+there_ended proxy place old new there same k h = one_ended place there.site there.now old new there.at (λ none. same ∙ none) there.sites k h
 
 -- no event of a drain loses a generation
 ended_stays : (moment : ℕ) (event : Event (List ℕ)) (old new : PoolState) → is_of_drain moment event ≡ true → Happens event old new → (k : ℕ) → HasNoLost k old → HasNoLost k new
 ended_stays moment (ClientBytes client bytes) old new is e k h = absurd cc
 ended_stays moment (ClientGone client) old new is e k h = absurd cc
-ended_stays moment (LinkLost server) old new is e k h = absurd cc
-ended_stays moment (LinkBack server) old new is e k h = absurd cc
+ended_stays moment (LinkLost proxy server) old new is e k h = absurd cc
+ended_stays moment (LinkBack proxy server) old new is e k h = absurd cc
 ended_stays moment (ProxyTurn client) old new is e k h = same_ended old new e.sites k h
 ended_stays moment (Emit client) old new is e k h = same_ended old new e.sites k h
 ended_stays moment (ClientTakes client count) old new is e k h = same_ended old new e.1.sites k h
-ended_stays moment (ToServer server generation count) old new is e k h = elim e [
-  | inl here ↦ there_ended server old new here.0.there (ap (λ (s : SiteState). s.lost) here.0.arrives.all_else) k h
+ended_stays moment (ToServer proxy server generation count) old new is e k h = elim e [
+  | inl here ↦ there_ended proxy server old new here.0.there (ap (λ (s : SiteState). s.lost) here.0.arrives.all_else) k h
   | inr late ↦
       one_ended server late.1.there.site late.1.there.now old new late.1.there.at
       (λ none. absurd (nothing_there late.1.there.site.lost late.0 late.1.arrives.way none late.1.arrives.way_at)) late.1.there.sites k h
 ]
-ended_stays moment (ServerTurn server generation at) old new is e k h = elim e.1 [
-  | inl here ↦ there_ended server old new here.0.there (ap (λ (s : SiteState). s.lost) here.0.enters.all_else) k h
+ended_stays moment (ServerTurn proxy server generation at) old new is e k h = elim e.1 [
+  | inl here ↦ there_ended proxy server old new here.0.there (ap (λ (s : SiteState). s.lost) here.0.enters.all_else) k h
   | inr late ↦
       one_ended server late.1.there.site late.1.there.now old new late.1.there.at
       (λ none. absurd (nothing_there late.1.there.site.lost late.0 late.1.enters.way none late.1.enters.way_at)) late.1.there.sites k h
 ]
-ended_stays moment (ToProxy server count) old new is e k h = there_ended server old new e.there (ap (λ (s : SiteState). s.lost) e.leaves) k h
-ended_stays moment (ReplyTurn server) old new is e k h = there_ended server old new e.there (ap (λ (s : SiteState). s.lost) e.counts) k h
-ended_stays moment (ServerSeesEnd server generation) old new is e k h =
+ended_stays moment (ToProxy proxy server count) old new is e k h = there_ended proxy server old new e.there (ap (λ (s : SiteState). s.lost) e.leaves) k h
+ended_stays moment (ReplyTurn proxy server) old new is e k h = there_ended proxy server old new e.there (ap (λ (s : SiteState). s.lost) e.counts) k h
+ended_stays moment (ServerSeesEnd proxy server generation) old new is e k h =
     one_ended server e.1.there.site e.1.there.now old new e.1.there.at
     (λ none. absurd (nothing_there e.1.there.site.lost e.0 e.1.ends.way none e.1.ends.way_at)) e.1.there.sites k h
 
@@ -108,7 +108,7 @@ pub ended_here : (moment place : ℕ) (pool : PoolState) → IsIdle moment pool 
 ended_here moment place pool idle site at =
     (elim site.lost as (λ ways. site.lost ≡ ways → site.lost ≡ []) [
       | [] ↦ λ e. e
-      | way ∷ ways ↦ λ e. absurd (idle (first_lost pool place site way ways at e))
+      | way ∷ ways ↦ λ e. absurd (idle (lost_first pool place site way ways at e))
     ]) refl
 
 -- no server has a lost generation, if the first ones have none and these are all

@@ -50,7 +50,7 @@ pub lives_go : (event : Event (List ℕ)) (old new : PoolState) → Happens even
 lives_go (ClientBytes client bytes) old new e = go_same old.sites new.sites e.1.sites
 lives_go (ClientGone client) old new e = go_same old.sites new.sites e.1.sites
 lives_go (ProxyTurn client) old new e = go_same old.sites new.sites e.sites
-lives_go (ToServer server generation count) old new e = elim e [
+lives_go (ToServer proxy server generation count) old new e = elim e [
   | inl here ↦
       go_still server here.0.there.site here.0.there.now old.sites new.sites here.0.there.at here.0.there.sites
       (ap (λ (s : SiteState). s.begun) here.0.arrives.all_else) (ap (λ (s : SiteState). s.history) here.0.arrives.all_else)
@@ -58,7 +58,7 @@ lives_go (ToServer server generation count) old new e = elim e [
       go_still server late.1.there.site late.1.there.now old.sites new.sites late.1.there.at late.1.there.sites
       (ap (λ (s : SiteState). s.begun) late.1.arrives.all_else) (ap (λ (s : SiteState). s.history) late.1.arrives.all_else)
 ]
-lives_go (ServerTurn server generation moment) old new e = elim e.1 [
+lives_go (ServerTurn proxy server generation moment) old new e = elim e.1 [
   | inl here ↦
       go_one server here.0.there.site here.0.there.now old.sites new.sites here.0.there.at here.0.there.sites
       (ap (λ (s : SiteState). s.begun) here.0.enters.all_else) _ here.0.enters.on.history
@@ -66,20 +66,20 @@ lives_go (ServerTurn server generation moment) old new e = elim e.1 [
       go_one server late.1.there.site late.1.there.now old.sites new.sites late.1.there.at late.1.there.sites
       (ap (λ (s : SiteState). s.begun) late.1.enters.all_else) _ late.1.enters.on.history
 ]
-lives_go (ToProxy server count) old new e =
+lives_go (ToProxy proxy server count) old new e =
     go_still server e.there.site e.there.now old.sites new.sites e.there.at e.there.sites
     (ap (λ (s : SiteState). s.begun) e.leaves) (ap (λ (s : SiteState). s.history) e.leaves)
-lives_go (ReplyTurn server) old new e =
+lives_go (ReplyTurn proxy server) old new e =
     go_still server e.there.site e.there.now old.sites new.sites e.there.at e.there.sites
     (ap (λ (s : SiteState). s.begun) e.counts) (ap (λ (s : SiteState). s.history) e.counts)
 lives_go (Emit client) old new e = go_same old.sites new.sites e.sites
 lives_go (ClientTakes client count) old new e = go_same old.sites new.sites e.1.sites
-lives_go (LinkLost server) old new e =
+lives_go (LinkLost proxy server) old new e =
     go_still server e.there.site e.there.now old.sites new.sites e.there.at e.there.sites
     (ap (λ (s : SiteState). s.begun) e.cut) (ap (λ (s : SiteState). s.history) e.cut)
-lives_go (LinkBack server) old new e =
+lives_go (LinkBack proxy server) old new e =
     go_still server e.site e.now old.sites new.sites e.at e.sites
     (ap (λ (s : SiteState). s.begun) e.back.all_else) (ap (λ (s : SiteState). s.history) e.back.all_else)
-lives_go (ServerSeesEnd server generation) old new e =
+lives_go (ServerSeesEnd proxy server generation) old new e =
     go_still server e.1.there.site e.1.there.now old.sites new.sites e.1.there.at e.1.there.sites
     (ap (λ (s : SiteState). s.begun) e.1.ends.all_else) (ap (λ (s : SiteState). s.history) e.1.ends.all_else)

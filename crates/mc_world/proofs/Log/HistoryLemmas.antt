@@ -66,17 +66,17 @@ histories_go order order' log x histories now none lost same h = record {
 }
 
 -- the server of a place takes one
-histories_serve_own : (order : Order) (log : Log) (place generation : ℕ) (e : Entry) (histories now : ℕ → List Entry) → now place ≡ histories place ++ e ∷ []
+histories_serve_own : (order : Order) (log : Log) (proxy place generation : ℕ) (e : Entry) (histories now : ℕ → List Entry) → now place ≡ histories place ++ e ∷ []
     → IsPlaced order log e → HistoriesHold order log histories → (k : ℕ) (d : Entry) → slice_get (now place) k ≡ Some d
-    → IsPlaced order (before (serves place) k (log ++ Happened (ServerTurn place generation e.moment) ∷ [])) d
-histories_serve_own order log place generation e histories now is placed h k d at =
+    → IsPlaced order (before (serves place) k (log ++ Happened (ServerTurn proxy place generation e.moment) ∷ [])) d
+histories_serve_own order log proxy place generation e histories now is placed h k d at =
     elim (got_pushed (histories place) e k d (ap (λ (es : List Entry). slice_get es k) (sym is) ∙ at)) [
-      | inl l ↦ placed_stays order order log (Happened (ServerTurn place generation e.moment)) histories place k d (λ tag lost. lost) h l
+      | inl l ↦ placed_stays order order log (Happened (ServerTurn proxy place generation e.moment)) histories place k d (λ tag lost. lost) h l
       | inr l ↦ (
-          let last : before (serves place) k (log ++ Happened (ServerTurn place generation e.moment) ∷ []) ≡ log =
-          ap (λ (n : ℕ). before (serves place) n (log ++ Happened (ServerTurn place generation e.moment) ∷ [])) (l.0 ∙ as_many order log histories place h)
-          ∙ before-last (serves place) log (Happened (ServerTurn place generation e.moment)) (own_number place) in
-          subst (λ (x : Entry). IsPlaced order (before (serves place) k (log ++ Happened (ServerTurn place generation e.moment) ∷ [])) x) (sym l.1)
+          let last : before (serves place) k (log ++ Happened (ServerTurn proxy place generation e.moment) ∷ []) ≡ log =
+          ap (λ (n : ℕ). before (serves place) n (log ++ Happened (ServerTurn proxy place generation e.moment) ∷ [])) (l.0 ∙ as_many order log histories place h)
+          ∙ before-last (serves place) log (Happened (ServerTurn proxy place generation e.moment)) (own_number place) in
+          subst (λ (x : Entry). IsPlaced order (before (serves place) k (log ++ Happened (ServerTurn proxy place generation e.moment) ∷ [])) x) (sym l.1)
           (subst (λ (l' : Log). IsPlaced order l' e) (sym last) placed))
     ]
 
@@ -95,26 +95,26 @@ histories_serve_ordered order place e histories log ordered h j k d f first seco
       ])
     ]
 
-pub histories_serve : (order : Order) (log : Log) (place generation : ℕ) (e : Entry) (histories now : ℕ → List Entry) → now place ≡ histories place ++ e ∷ []
+pub histories_serve : (order : Order) (log : Log) (proxy place generation : ℕ) (e : Entry) (histories now : ℕ → List Entry) → now place ≡ histories place ++ e ∷ []
     → ((other : ℕ) → place ≢ other → now other ≡ histories other) → IsPlaced order log e → ((j : ℕ) (d : Entry) → slice_get (histories place) j ≡ Some d → AreOrdered order d e)
-    → HistoriesHold order log histories → HistoriesHold order (log ++ Happened (ServerTurn place generation e.moment) ∷ []) now
-histories_serve order log place generation e histories now is others placed ordered h =
-    let own : map (λ (d : Entry). d.moment) (now place) ≡ moments_of place (log ++ Happened (ServerTurn place generation e.moment) ∷ []) =
+    → HistoriesHold order log histories → HistoriesHold order (log ++ Happened (ServerTurn proxy place generation e.moment) ∷ []) now
+histories_serve order log proxy place generation e histories now is others placed ordered h =
+    let own : map (λ (d : Entry). d.moment) (now place) ≡ moments_of place (log ++ Happened (ServerTurn proxy place generation e.moment) ∷ []) =
     ap (λ (es : List Entry). map (λ (d : Entry). d.moment) es) is ∙ map-append (λ (d : Entry). d.moment) (histories place) (e ∷ [])
     ∙ ap (λ (ms : List ℕ). ms ++ e.moment ∷ []) (h.moments place)
     ∙ ap (λ (v : Bool). moments_of place log ++ (if v then e.moment ∷ [] else [])) (sym (own_number place))
-    ∙ sym (moments-push place log (Happened (ServerTurn place generation e.moment))) in
+    ∙ sym (moments-push place log (Happened (ServerTurn proxy place generation e.moment))) in
     record {
       moments = λ other. ⊎_elim
-          (λ same. subst (λ (p : ℕ). map (λ (d : Entry). d.moment) (now p) ≡ moments_of p (log ++ Happened (ServerTurn place generation e.moment) ∷ [])) same.1 own)
+          (λ same. subst (λ (p : ℕ). map (λ (d : Entry). d.moment) (now p) ≡ moments_of p (log ++ Happened (ServerTurn proxy place generation e.moment) ∷ [])) same.1 own)
           (λ differ. ap (λ (es : List Entry). map (λ (d : Entry). d.moment) es) (others other differ.1) ∙ h.moments other
-          ∙ sym (moments-push other log (Happened (ServerTurn place generation e.moment))
+          ∙ sym (moments-push other log (Happened (ServerTurn proxy place generation e.moment))
           ∙ ap (λ (v : Bool). moments_of other log ++ (if v then e.moment ∷ [] else [])) (other_number place other differ.1) ∙ append-nil (moments_of other log)))
           (eqb_tells place other);
       placed = λ other k d at. ⊎_elim
-          (λ same. subst (λ (p : ℕ). IsPlaced order (before (serves p) k (log ++ Happened (ServerTurn place generation e.moment) ∷ [])) d) same.1
-          (histories_serve_own order log place generation e histories now is placed h k d (ap (λ (p : ℕ). slice_get (now p) k) same.1 ∙ at)))
-          (λ differ. placed_stays order order log (Happened (ServerTurn place generation e.moment)) histories other k d (λ tag lost. lost) h
+          (λ same. subst (λ (p : ℕ). IsPlaced order (before (serves p) k (log ++ Happened (ServerTurn proxy place generation e.moment) ∷ [])) d) same.1
+          (histories_serve_own order log proxy place generation e histories now is placed h k d (ap (λ (p : ℕ). slice_get (now p) k) same.1 ∙ at)))
+          (λ differ. placed_stays order order log (Happened (ServerTurn proxy place generation e.moment)) histories other k d (λ tag lost. lost) h
           (ap (λ (es : List Entry). slice_get es k) (sym (others other differ.1)) ∙ at))
           (eqb_tells place other);
       ordered = λ other j k d f first second lt. ⊎_elim

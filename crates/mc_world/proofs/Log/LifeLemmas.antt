@@ -16,7 +16,7 @@ use Rattle.mc_world.specs.declared.events.Event.{Event}
 use Rattle.mc_world.specs.Courses.{IsDone}
 use Rattle.mc_world.specs.CourseHolds.{CourseHolds, LivesHold}
 use Rattle.mc_world.specs.LogHolds.{LogHolds}
-use Rattle.mc_world.specs.Logs.{Log, in_life, loses, number_of, restarts, serves, taken_before}
+use Rattle.mc_world.specs.Logs.{Log, in_life, number_of, restarts, serves, taken_before}
 use Rattle.mc_world.specs.WorldState.{PoolState, SiteState, begun_of, histories_of}
 use Rattle.mc_world.specs.Worlds.{CourseState, put_out_of}
 use Rattle.mc_world.specs.declared.logs.Logged.{Logged}
@@ -24,7 +24,7 @@ use Rattle.mc_world.specs.declared.logs.Logged.TheVariants.{Happened}
 use Rattle.mc_world.proofs.Log.GoingLemmas.{GoOn, lives_go}
 use Rattle.mc_world.proofs.Log.HistoryLemmas.{as_many}
 use Rattle.mc_world.proofs.SiteEvents.SiteLemmas.{get_past}
-use Rattle.mc_world.proofs.Log.LogLemmas.{before-past, before-stays, number-before, number-none, number-push}
+use Rattle.mc_world.proofs.Log.LogLemmas.{before-past, before-stays, number-before, number-none}
 
 -- entries that are legal by an order are legal by one that goes on from it
 pub legal_kept : (order longer : Order) (place : ℕ) (s : CacheState) (es : List Entry) → Keeps order longer → IsLegal order place s es → IsLegal longer place s es
@@ -71,7 +71,6 @@ lives_on opening order longer log x old new keeps go other sizes h = record {
       go.begun place ∙ h.begun place
       ∙ sym (ap (λ (n : ℕ). taken_before place n (log ++ x ∷ [])) (number-none (restarts place) log x (other place))
       ∙ taken_stays place (number_of (restarts place) log) log x (omega arith));
-  first = λ place never. go.begun place ∙ h.first place (omega (arith, never, number-push (loses place) log x));
   ended = λ place life early.
       let was = number-none (restarts place) log x (other place) in
       let before_now : life < number_of (restarts place) log = omega (arith, early, was) in

@@ -1,11 +1,12 @@
 -- A log that grows.
-use Rattle.std.proofs.Common.{◌≡◌, ◌∙◌, ℕ, zero, suc, ◌+◌, ◌<◌, ◌≤◌, ◌==◌, Bool, true, false, if◌then◌else◌, List, [], ◌∷◌, ◌++◌, length, refl, sym, ap, append_assoc, append-nil, arith}
+use Rattle.std.proofs.Common.{◌≡◌, ◌∙◌, ℕ, zero, suc, ◌+◌, ◌<◌, ◌≤◌, ◌==◌, ◌&&◌, not, inl, inr, Bool, true, false, if◌then◌else◌, List, [], ◌∷◌, ◌++◌, length, refl, sym, ap, append_assoc, append-nil, arith}
+use Rattle.std.proofs.lemmas.Bool.{true≢false}
 use Rattle.std.proofs.lemmas.List.{length-append}
 use Rattle.mc_ring.specs.Rings.{RingState}
 use Rattle.mc_world.specs.declared.events.Event.TheVariants.{LinkBack, LinkLost, ServerTurn}
 use Rattle.mc_world.specs.declared.logs.Logged.{Logged}
 use Rattle.mc_world.specs.declared.logs.Logged.TheVariants.{Happened, Joined, Restarted}
-use Rattle.mc_world.specs.Logs.{IsRingAfter, Log, before, loses, moment_of, moments_of, number_of, serves, up_by, up_from}
+use Rattle.mc_world.specs.Logs.{IsRingAfter, Log, before, drops, loses, moment_of, moments_of, number_of, serves, up_by, up_from}
 
 pub number-push : (is : Logged → Bool) (log : Log) (e : Logged) → number_of is (log ++ e ∷ []) ≡ number_of is log + (if is e then 1 else 0)
 number-push is [] e = (elim (is e) as (λ v. (if v then suc 0 else 0) ≡ 0 + (if v then 1 else 0)) [
@@ -19,9 +20,9 @@ number-push is (x ∷ xs) e =
       | false ↦ again
     ])
 
-pub up-push : (place : ℕ) (up : Bool) (log : Log) (e : Logged) → up_from place up (log ++ e ∷ []) ≡ up_by place e (up_from place up log)
-up-push place up [] e = refl
-up-push place up (x ∷ xs) e = up-push place (up_by place x up) xs e
+pub up-push : (proxy place : ℕ) (up : Bool) (log : Log) (e : Logged) → up_from proxy place up (log ++ e ∷ []) ≡ up_by proxy place e (up_from proxy place up log)
+up-push proxy place up [] e = refl
+up-push proxy place up (x ∷ xs) e = up-push proxy place (up_by proxy place x up) xs e
 
 -- the place of an earlier event
 pub before-more : (is : Logged → Bool) (number : ℕ) (log more : Log) → number < number_of is log → before is number (log ++ more) ≡ before is number log
@@ -106,23 +107,29 @@ number-before is kind (suc number) (x ∷ xs) =
 -- an event joins no server, and restarts none
 abbrev pub IsEvent : Logged → Type 0
 IsEvent (Happened event) = Unit {0}
-IsEvent (Joined server address) = ⊥
+IsEvent (Joined proxy server address up) = ⊥
 IsEvent (Restarted server) = ⊥
 
--- such an event leaves the ring as it was
-pub ring-push : (opening now : RingState) (log : Log) (e : Logged) → IsEvent e → IsRingAfter opening log now → IsRingAfter opening (log ++ e ∷ []) now
-ring-push opening now [] (Happened event) is h = h
-ring-push opening now [] (Joined server address) is h = absurd is
-ring-push opening now [] (Restarted server) is h = absurd is
-ring-push opening now (Happened event ∷ es) e is h = ring-push opening now es e is h
-ring-push opening now (Joined server address ∷ es) e is h = (h.0, h.1, ring-push h.0 now es e is h.2)
-ring-push opening now (Restarted server ∷ es) e is h = ring-push opening now es e is h
+-- such an event leaves the ring of each proxy as it was, and so does a restart
+pub ring-push : (proxy : ℕ) (opening now : RingState) (log : Log) (e : Logged) → IsEvent e → IsRingAfter proxy opening log now → IsRingAfter proxy opening (log ++ e ∷ []) now
+ring-push proxy opening now [] (Happened event) is h = h
+ring-push proxy opening now [] (Joined of server address up) is h = absurd is
+ring-push proxy opening now [] (Restarted server) is h = absurd is
+ring-push proxy opening now (Happened event ∷ es) e is h = ring-push proxy opening now es e is h
+ring-push proxy opening now (Joined of server address up ∷ es) e is h = elim h [
+  | inl k ↦ inl (k.0, k.1, k.2, ring-push proxy k.1 now es e is k.3)
+  | inr k ↦ inr (k.0, ring-push proxy opening now es e is k.1)
+]
+ring-push proxy opening now (Restarted server ∷ es) e is h = ring-push proxy opening now es e is h
 
-pub ring-restart : (opening now : RingState) (log : Log) (server : ℕ) → IsRingAfter opening log now → IsRingAfter opening (log ++ Restarted server ∷ []) now
-ring-restart opening now [] server h = h
-ring-restart opening now (Happened event ∷ es) server h = ring-restart opening now es server h
-ring-restart opening now (Joined other address ∷ es) server h = (h.0, h.1, ring-restart h.0 now es server h.2)
-ring-restart opening now (Restarted other ∷ es) server h = ring-restart opening now es server h
+pub ring-restart : (proxy : ℕ) (opening now : RingState) (log : Log) (server : ℕ) → IsRingAfter proxy opening log now → IsRingAfter proxy opening (log ++ Restarted server ∷ []) now
+ring-restart proxy opening now [] server h = h
+ring-restart proxy opening now (Happened event ∷ es) server h = ring-restart proxy opening now es server h
+ring-restart proxy opening now (Joined of other address up ∷ es) server h = elim h [
+  | inl k ↦ inl (k.0, k.1, k.2, ring-restart proxy k.1 now es server k.3)
+  | inr k ↦ inr (k.0, ring-restart proxy opening now es server k.1)
+]
+ring-restart proxy opening now (Restarted other ∷ es) server h = ring-restart proxy opening now es server h
 
 -- moments of a server
 pub moments-push : (server : ℕ) (log : Log) (e : Logged) → moments_of server (log ++ e ∷ []) ≡ moments_of server log ++ moment_of server e
@@ -131,7 +138,7 @@ moments-push server (x ∷ xs) e =
     ap (λ (ms : List ℕ). moment_of server x ++ ms) (moments-push server xs e) ∙ sym (append_assoc (moment_of server x) (moments_of server xs) (moment_of server e))
 
 moment-one : (server : ℕ) (e : Logged) → length (moment_of server e) ≡ (if serves server e then 1 else 0)
-moment-one server (Happened (ServerTurn at generation moment)) = (elim (at == server) as (λ v. length (if v then moment ∷ [] else []) ≡ (if v then 1 else 0)) [
+moment-one server (Happened (ServerTurn proxy at generation moment)) = (elim (at == server) as (λ v. length (if v then moment ∷ [] else []) ≡ (if v then 1 else 0)) [
   | true ↦ refl
   | false ↦ refl
 ])
@@ -149,16 +156,40 @@ moments-count server (x ∷ xs) =
       | false ↦ λ size. omega (arith, joined, size, again)
     ]) one
 
--- a link that is not lost stays up
-up_by_other : (place : ℕ) (e : Logged) → loses place e ≡ false → up_by place e true ≡ true
-up_by_other place (Happened (LinkLost at)) h = ap (λ (v : Bool). if v then false else true) h
-up_by_other place (Happened (LinkBack at)) h = grind arith
-up_by_other place other h = refl
+-- a link is lost no more often than it goes down
+loss_drops : (proxy place : ℕ) (e : Logged) (few many : ℕ) → few ≤ many → (if loses proxy place e then suc few else few) ≤ (if drops proxy place e then suc many else many)
+loss_drops proxy place (Happened event) few many le = counted (loses proxy place (Happened event)) few many le
+loss_drops proxy place (Joined of at address up) few many le = (elim (((of == proxy) && (at == place)) && not up) as (λ v. few ≤ (if v then suc many else many)) [
+  | true ↦ omega (arith, le)
+  | false ↦ le
+])
+loss_drops proxy place (Restarted at) few many le = le
 
-pub stays_up : (place : ℕ) (log : Log) → number_of (loses place) log ≡ 0 → up_from place true log ≡ true
-stays_up place [] none = refl
-stays_up place (e ∷ es) none =
-    (elim (loses place e) as (λ v. loses place e ≡ v → (if v then suc (number_of (loses place) es) else number_of (loses place) es) ≡ 0 → up_from place (up_by place e true) es ≡ true) [
+pub losses_few : (proxy place : ℕ) (log : Log) → number_of (loses proxy place) log ≤ number_of (drops proxy place) log
+losses_few proxy place [] = omega arith
+losses_few proxy place (e ∷ es) = loss_drops proxy place e (number_of (loses proxy place) es) (number_of (drops proxy place) es) (losses_few proxy place es)
+
+-- a link that does not go down stays up
+up_by_other : (proxy place : ℕ) (e : Logged) → drops proxy place e ≡ false → up_by proxy place e true ≡ true
+up_by_other proxy place (Happened (LinkLost of at)) h = ap (λ (v : Bool). if v then false else true) h
+up_by_other proxy place (Happened (LinkBack of at)) h = (elim ((of == proxy) && (at == place)) as (λ v. (if v then true else true) ≡ true) [
+  | true ↦ refl
+  | false ↦ refl
+])
+up_by_other proxy place (Joined of at address now) h = (elim ((of == proxy) && (at == place)) as (λ v. (v && not now) ≡ false → (if v then now else true) ≡ true) [
+  | true ↦ (elim now as (λ u. not u ≡ false → u ≡ true) [
+    | true ↦ λ k. refl
+    | false ↦ λ k. absurd (true≢false k)
+  ])
+  | false ↦ λ k. refl
+]) h
+up_by_other proxy place other h = refl
+
+pub stays_up : (proxy place : ℕ) (log : Log) → number_of (drops proxy place) log ≡ 0 → up_from proxy place true log ≡ true
+stays_up proxy place [] none = refl
+stays_up proxy place (e ∷ es) none =
+    (elim (drops proxy place e) as (λ v. drops proxy place e ≡ v → (if v then suc (number_of (drops proxy place) es) else number_of (drops proxy place) es) ≡ 0
+    → up_from proxy place (up_by proxy place e true) es ≡ true) [
       | true ↦ λ own k. absurd (omega (arith, k))
-      | false ↦ λ other k. ap (λ (up : Bool). up_from place up es) (up_by_other place e other) ∙ stays_up place es k
+      | false ↦ λ other k. ap (λ (up : Bool). up_from proxy place up es) (up_by_other proxy place e other) ∙ stays_up proxy place es k
     ]) refl none

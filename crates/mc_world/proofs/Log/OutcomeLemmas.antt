@@ -7,7 +7,9 @@ use Rattle.mc_route.specs.declared.outcomes.Outcome.{Outcome}
 use Rattle.mc_route.specs.declared.outcomes.Outcome.TheVariants.{Awaited, Lost}
 use Rattle.mc_link.specs.declared.turns.Tag.{Tag}
 use Rattle.mc_proxy.specs.SessionNoting.{set_outcome}
+use Rattle.mc_cache.specs.CacheState.{CacheState}
 use Rattle.mc_account.specs.Answered.{AreAnswers}
+use Rattle.mc_account.specs.Lanes.{Lane}
 use Rattle.mc_account.specs.Lookups.{AreAwaited, IsRoutedWithin, asked_at, command_at, outcome_at, outcome_in}
 use Rattle.mc_account.specs.Orders.{AreInOrder, Order, TakenRequest, entries_of, note, note_all, note_in, numbers_from, owns}
 use Rattle.mc_account.proofs.LookupLemmas.{numbered-note}
@@ -16,6 +18,10 @@ use Rattle.mc_account.proofs.StayingLemmas.{answers_note}
 use Rattle.mc_account.proofs.WithinLemmas.{within-note}
 use Rattle.mc_history.specs.Made.{Each}
 use Rattle.mc_history.proofs.OutcomeLemmas.{command_note, note_back, own_of}
+use Rattle.mc_world.specs.Homes.{Homes, of_proxy}
+use Rattle.mc_world.specs.Pools.{PoolHolds}
+use Rattle.mc_world.specs.WorldState.{PoolState, home_of}
+use Rattle.mc_world.proofs.Homes.OrderLemmas.{numbered_whole, of_proxy-note, outcome_whole}
 
 -- The same requests, with more outcomes known: a lost command stays lost, and an answered one
 -- answered.
@@ -23,7 +29,7 @@ pub record Goes (old new : Order) : Type 0 where
   pub sessions : map (λ (e : TakenRequest). e.session) new ≡ map (λ (e : TakenRequest). e.session) old
   pub rings : (client request : ℕ) (e : TakenRequest) → asked_at new client request ≡ Some e
       → (d : TakenRequest) × (asked_at old client request ≡ Some d) × (e.ring ≡ d.ring)
-  pub inside : (places : ℕ) → All (IsRoutedWithin places) old → All (IsRoutedWithin places) new
+  pub inside : (home : Homes) (proxy places : ℕ) → All (IsRoutedWithin places) (of_proxy home proxy old) → All (IsRoutedWithin places) (of_proxy home proxy new)
   pub commands : (tag : Tag) → command_at new tag ≡ command_at old tag
   pub lost : (tag : Tag) → outcome_at old tag ≡ Some Lost → outcome_at new tag ≡ Some Lost
   pub answers : (client count : ℕ) (out : List ℕ) → AreAnswers client old count out [] → AreAnswers client new count out []
@@ -32,7 +38,7 @@ pub goes_same : (order : Order) → Goes order order
 goes_same order = record {
   sessions = refl;
   rings = λ client request e at. (e, at, refl);
-  inside = λ places h. h;
+  inside = λ home proxy places h. h;
   commands = λ tag. refl;
   lost = λ tag h. h;
   answers = λ client count out h. h;
@@ -45,7 +51,7 @@ goes_then old middle new f g = record {
       let later = g.rings client request e at in
       let first = f.rings client request later.0 later.1 in
       (first.0, first.1, later.2 ∙ first.2);
-  inside = λ places h. g.inside places (f.inside places h);
+  inside = λ home proxy places h. g.inside home proxy places (f.inside home proxy places h);
   commands = λ tag. g.commands tag ∙ f.commands tag;
   lost = λ tag h. g.lost tag (f.lost tag h);
   answers = λ client count out h. g.answers client count out (f.answers client count out h);
@@ -133,7 +139,7 @@ goes_note t outcome order numbered awaited = record {
   sessions = sessions-note t outcome order;
   rings = λ client request e at.
       ring_noted t outcome (entries_of client order) request e (ap (λ (es : Order). slice_get es request) (sym (entries-note client t outcome order)) ∙ at);
-  inside = λ places h. within-note places t outcome order h;
+  inside = λ home proxy places h. subst (λ (es : Order). All (IsRoutedWithin places) es) (sym (of_proxy-note home proxy t outcome order)) (within-note places t outcome (of_proxy home proxy order) h);
   commands = λ tag. command_note t outcome order tag;
   lost = λ tag h. lost_stays t outcome order numbered awaited tag h;
   answers = λ client count out h. answers_note client order t outcome count out [] (numbered client) awaited h;
@@ -183,3 +189,16 @@ all_lost (t ∷ ts) order zero tag numbered awaited at =
     subst (λ (u : Tag). outcome_at (note_all ts Lost (note t Lost order)) u ≡ Some Lost) same
     ((goes_note_all ts Lost (note t Lost order) (numbered-note t Lost order numbered) awaited.1).lost t (note_own t Lost order Awaited (numbered t.session) awaited.0))
 all_lost (t ∷ ts) order (suc index) tag numbered awaited at = all_lost ts (note t Lost order) index tag (numbered-note t Lost order numbered) awaited.1 at
+
+-- commands of one proxy that are awaited in its own order are awaited in the order of all
+pub whole_awaited : (home : Homes) (proxy : ℕ) (tags : List Tag) (outcome : Outcome) (order : Order) → AreAwaited tags outcome (of_proxy home proxy order) → AreAwaited tags outcome order
+whole_awaited home proxy [] outcome order awaited = tt
+whole_awaited home proxy (t ∷ ts) outcome order awaited = (
+  outcome_whole home proxy order t Awaited awaited.0,
+  whole_awaited home proxy ts outcome (note t outcome order) (subst (λ (es : Order). AreAwaited ts outcome es) (sym (of_proxy-note home proxy t outcome order)) awaited.1),
+)
+
+-- the requests of each client are numbered in their order
+pub pool_numbered : (opening : CacheState) (texts sent : ℕ → List ℕ) (order : Order) (lanes : ℕ → ℕ → Lane) (pool : PoolState) → PoolHolds opening texts sent order lanes pool
+    → (number : ℕ) → AreInOrder (entries_of number order)
+pool_numbered opening texts sent order lanes pool h number = numbered_whole (home_of pool) order (λ proxy. (h.proxies proxy).numbered) number

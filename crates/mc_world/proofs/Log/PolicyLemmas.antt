@@ -1,25 +1,27 @@
 -- The choice for lost commands stays, and the answers follow it.
-use Rattle.std.proofs.Common.{◌≡◌, ◌∙◌, ℕ, zero, suc, ◌==◌, inl, inr, Bool, true, false, if◌then◌else◌, List, [], ◌∷◌, ◌++◌, take, None, Some, Result, Ok, Err, IfOk, OnOk, OnErr, refl, ap, ap₂}
+use Rattle.std.proofs.Common.{◌≡◌, ◌∙◌, ℕ, zero, suc, ◌<◌, ◌==◌, inl, inr, Bool, true, false, if◌then◌else◌, List, [], ◌∷◌, ◌++◌, length, take, None, Some, Result, Ok, Err, IfOk, OnOk, OnErr, refl, ap, ap₂, arith}
 use Rattle.std.specs.Prelude.{All}
 use Rattle.std.proofs.lemmas.List.Elements.{All-cons, All-head, All-nil, All-tail}
 use Rattle.mc_route.specs.declared.losses.Losses.{Losses}
+use Rattle.mc_cache.specs.CacheState.{CacheState}
 use Rattle.mc_proxy.specs.Emits.{answer_by}
 use Rattle.mc_proxy.specs.ProxyState.{ProxyState, sent_by, session_at}
 use Rattle.mc_account.specs.Orders.{HasChoice, Order, TakenRequest, answers_of, entries_of}
-use Rattle.mc_cache.specs.CacheState.{CacheState}
 use Rattle.mc_world.specs.declared.events.Event.{Event}
 use Rattle.mc_world.specs.declared.events.Event.TheVariants.{ClientBytes, ClientGone, ClientTakes, Emit, LinkBack, LinkLost, ProxyTurn, ReplyTurn, ServerSeesEnd, ServerTurn, ToProxy, ToServer}
 use Rattle.mc_world.specs.Accounts.{answers_by}
 use Rattle.mc_world.specs.Courses.{Happens, IsDone}
 use Rattle.mc_world.specs.Happens.{Does}
-use Rattle.mc_world.specs.Joins.{HasServerJoined}
-use Rattle.mc_world.specs.Restarts.{HasServerRestarted}
-use Rattle.mc_world.specs.Runs.{Call, Calls, Join, Restart, Step}
-use Rattle.mc_world.specs.WorldState.{PoolState}
+use Rattle.mc_world.specs.Joins.{HasLearnedServer, HasServerJoined}
+use Rattle.mc_world.specs.Pools.{ProxiesStay, ProxyBecomes}
+use Rattle.mc_world.specs.Restarts.{AreCut, HasServerRestarted}
+use Rattle.mc_world.specs.Runs.{Call, Calls, Join, Learn, Restart, Step}
+use Rattle.mc_world.specs.WorldState.{PoolState, home_of, proxy_at, proxy_of}
 use Rattle.mc_world.specs.Worlds.{CourseState}
 use Rattle.mc_world.specs.declared.errors.Step.{Step as AStep}
 use Rattle.mc_world.specs.declared.errors.Step.TheVariants.{Done, Nothing}
 use Rattle.mc_world.specs.declared.errors.WorldError.{WorldError}
+use Rattle.mc_world.proofs.PoolEvents.ProxyLemmas.{all_keep, proxies_count, proxy_stays}
 
 -- bytes that a client takes
 sent_losses : (client count : ℕ) (p : ProxyState) → (sent_by client count (session_at p client) p).losses ≡ p.losses
@@ -29,80 +31,128 @@ sent_losses client count p =
       | Some s ↦ refl
     ]
 
-same_losses : (old new : ProxyState) → new ≡ old → new.losses ≡ old.losses
-same_losses old new same = ap (λ (p : ProxyState). p.losses) same
+-- as many proxies, each with the choice that it had
+pub record KeepLosses (old new : PoolState) : Type 0 where
+  pub proxies : length new.proxies ≡ length old.proxies
+  pub losses : (proxy : ℕ) → (proxy_at new proxy).losses ≡ (proxy_at old proxy).losses
 
--- each event keeps the choice
-happened_losses : (event : Event (List ℕ)) (old new : PoolState) → Happens event old new → new.proxy.losses ≡ old.proxy.losses
-happened_losses (ClientBytes client bytes) old new h = h.1.steps.losses
-happened_losses (ClientGone client) old new h = ap (λ (p : ProxyState). p.losses) h.1.proxy
-happened_losses (ProxyTurn client) old new h = h.steps.losses
-happened_losses (ToServer server generation count) old new h = elim h [
-  | inl here ↦ ap (λ (p : ProxyState). p.losses) here.0.proxy
-  | inr late ↦ same_losses old.proxy new.proxy late.1.there.proxy
+-- all have one choice, and so they still have it
+abbrev pub HaveChoice : Losses → PoolState → Type 0
+HaveChoice losses pool = (proxy : ℕ) → proxy < length pool.proxies → (proxy_at pool proxy).losses ≡ losses
+
+pub choice_kept : (losses : Losses) (old new : PoolState) → KeepLosses old new → HaveChoice losses old → HaveChoice losses new
+choice_kept losses old new kept one proxy inside = kept.losses proxy ∙ one proxy (omega (arith, inside, kept.proxies))
+
+one_becomes : (proxy : ℕ) (now : ProxyState) (old new : PoolState) → ProxyBecomes proxy now old new → now.losses ≡ (proxy_at old proxy).losses → KeepLosses old new
+one_becomes proxy now old new is same = record {
+  proxies = proxies_count proxy now old new is;
+  losses = all_keep (λ (p : ProxyState). p.losses) proxy now old new is same;
+}
+
+all_stay : (old new : PoolState) → ProxiesStay old new → KeepLosses old new
+all_stay old new is = record {
+  proxies = ap (λ (ps : List ProxyState). length ps) is.proxies;
+  losses = λ other. ap (λ (p : ProxyState). p.losses) (proxy_stays old new is other);
+}
+
+pub losses_same : (old new : CourseState) → new ≡ old → KeepLosses old.pool new.pool
+losses_same old new same = record {
+  proxies = ap (λ (c : CourseState). length c.pool.proxies) same;
+  losses = λ proxy. ap (λ (c : CourseState). (proxy_at c.pool proxy).losses) same;
+}
+
+pub losses_then : (old mid new : PoolState) → KeepLosses old mid → KeepLosses mid new → KeepLosses old new
+losses_then old mid new f g = record { proxies = g.proxies ∙ f.proxies; losses = λ proxy. g.losses proxy ∙ f.losses proxy }
+
+-- each event keeps the choices
+pub happened_losses : (event : Event (List ℕ)) (old new : PoolState) → Happens event old new → KeepLosses old new
+happened_losses (ClientBytes client bytes) old new h = one_becomes (home_of old client) h.1.now old new h.1.proxy h.1.steps.losses
+happened_losses (ClientGone client) old new h = one_becomes (home_of old client) _ old new h.1.proxy refl
+happened_losses (ProxyTurn client) old new h = one_becomes (home_of old client) h.now old new h.proxy h.steps.losses
+happened_losses (ToServer proxy server generation count) old new h = elim h [
+  | inl here ↦ one_becomes proxy _ old new here.0.proxy refl
+  | inr late ↦ all_stay old new late.1.there.proxies
 ]
-happened_losses (ServerTurn server generation moment) old new h = elim h.1 [
-  | inl here ↦ same_losses old.proxy new.proxy here.0.proxy
-  | inr late ↦ same_losses old.proxy new.proxy late.1.there.proxy
+happened_losses (ServerTurn proxy server generation moment) old new h = elim h.1 [
+  | inl here ↦ all_stay old new here.0.proxies
+  | inr late ↦ all_stay old new late.1.there.proxies
 ]
-happened_losses (ToProxy server count) old new h = ap (λ (p : ProxyState). p.losses) h.proxy
-happened_losses (ReplyTurn server) old new h = h.answers.losses
-happened_losses (Emit client) old new h = h.steps.losses
-happened_losses (ClientTakes client count) old new h = ap (λ (p : ProxyState). p.losses) h.1.proxy ∙ sent_losses client count old.proxy
-happened_losses (LinkLost server) old new h = ap (λ (p : ProxyState). p.losses) h.proxy
-happened_losses (LinkBack server) old new h = ap (λ (p : ProxyState). p.losses) h.proxy
-happened_losses (ServerSeesEnd server generation) old new h = same_losses old.proxy new.proxy h.1.there.proxy
+happened_losses (ToProxy proxy server count) old new h = one_becomes proxy _ old new h.proxy refl
+happened_losses (ReplyTurn proxy server) old new h = one_becomes proxy h.now old new h.proxy h.answers.losses
+happened_losses (Emit client) old new h = one_becomes (home_of old client) h.now old new h.proxy h.steps.losses
+happened_losses (ClientTakes client count) old new h = one_becomes (home_of old client) _ old new h.1.proxy (sent_losses client count (proxy_of old client))
+happened_losses (LinkLost proxy server) old new h = one_becomes proxy _ old new h.proxy refl
+happened_losses (LinkBack proxy server) old new h = one_becomes proxy _ old new h.proxy refl
+happened_losses (ServerSeesEnd proxy server generation) old new h = all_stay old new h.1.there.proxies
 
-kept : (old new : CourseState) → new ≡ old → new.pool.proxy.losses ≡ old.pool.proxy.losses
-kept old new same = ap (λ (c : CourseState). c.pool.proxy.losses) same
+-- a restart keeps them, and so do a join and a proxy that learns a server
+cut_losses : (count place : ℕ) (old new : CourseState) → AreCut count place old new → KeepLosses old.pool new.pool
+cut_losses zero place old new h = losses_same old new h
+cut_losses (suc proxy) place old new h =
+    losses_then old.pool h.0.pool new.pool (cut_losses proxy place old h.0 h.1) (elim h.2 [
+      | inl lost ↦ happened_losses (LinkLost proxy place) h.0.pool new.pool lost.1.pool
+      | inr still ↦ losses_same h.0 new still.1
+    ])
 
--- a restart keeps it
-restart_keeps_losses : (place : ℕ) (cache : CacheState) (old new : CourseState) → HasServerRestarted place cache old new → new.pool.proxy.losses ≡ old.pool.proxy.losses
-restart_keeps_losses place cache old new h =
-    let cut : h.cut.pool.proxy.losses ≡ old.pool.proxy.losses = elim h.loses [
-      | inl lost ↦ happened_losses (LinkLost place) old.pool h.cut.pool lost.1.pool
-      | inr still ↦ kept old h.cut still.1
-    ] in
-    same_losses h.cut.pool.proxy new.pool.proxy h.pool.proxy ∙ cut
+restart_losses : (place : ℕ) (cache : CacheState) (old new : CourseState) → HasServerRestarted place cache old new → KeepLosses old.pool new.pool
+restart_losses place cache old new h =
+    losses_then old.pool h.cut.pool new.pool (cut_losses (length old.pool.proxies) place old h.cut h.loses) (all_stay h.cut.pool new.pool h.pool.proxies)
 
--- any list of calls keeps it
-pub called_losses : (opening : CacheState) (calls : List Call) (old new : CourseState) → Calls opening calls old new → new.pool.proxy.losses ≡ old.pool.proxy.losses
-called_losses opening [] old new run = kept old new run
-called_losses opening (Step event ∷ calls) old new run =
-    let first : run.0.pool.proxy.losses ≡ old.pool.proxy.losses = elim run.1 [
+join_losses : (proxy : ℕ) (address : List ℕ) (cache : CacheState) (old new : CourseState) → HasServerJoined proxy address cache old new → KeepLosses old.pool new.pool
+join_losses proxy address cache old new h = one_becomes proxy h.pool.now old.pool new.pool h.pool.proxies h.pool.joins.losses
+
+learn_losses : (proxy : ℕ) (address : List ℕ) (old new : CourseState) → HasLearnedServer proxy address old new → KeepLosses old.pool new.pool
+learn_losses proxy address old new h = one_becomes proxy h.pool.now old.pool new.pool h.pool.proxies h.pool.joins.losses
+
+-- any list of calls keeps them, and so the choice of all
+calls_keep : (opening : CacheState) (calls : List Call) (old new : CourseState) → Calls opening calls old new → KeepLosses old.pool new.pool
+calls_keep opening [] old new run = losses_same old new run
+calls_keep opening (Step event ∷ calls) old new run =
+    losses_then old.pool run.0.pool new.pool (elim run.1 [
       | inl done ↦ happened_losses event old.pool run.0.pool done.pool
-      | inr same ↦ kept old run.0 same
-    ] in
-    called_losses opening calls run.0 new run.2 ∙ first
-called_losses opening (Join address ∷ calls) old new run =
-    let first : run.0.pool.proxy.losses ≡ old.pool.proxy.losses = elim run.1 [
-      | inl joined ↦ joined.pool.proxy.losses
-      | inr same ↦ kept old run.0 same
-    ] in
-    called_losses opening calls run.0 new run.2 ∙ first
-called_losses opening (Restart place ∷ calls) old new run =
-    let first : run.0.pool.proxy.losses ≡ old.pool.proxy.losses = elim run.1 [
-      | inl restarted ↦ restart_keeps_losses place opening old run.0 restarted
-      | inr same ↦ kept old run.0 same
-    ] in
-    called_losses opening calls run.0 new run.2 ∙ first
+      | inr same ↦ losses_same old run.0 same
+    ]) (calls_keep opening calls run.0 new run.2)
+calls_keep opening (Join proxy address ∷ calls) old new run =
+    losses_then old.pool run.0.pool new.pool (elim run.1 [
+      | inl joined ↦ join_losses proxy address opening old run.0 joined
+      | inr same ↦ losses_same old run.0 same
+    ]) (calls_keep opening calls run.0 new run.2)
+calls_keep opening (Learn proxy address ∷ calls) old new run =
+    losses_then old.pool run.0.pool new.pool (elim run.1 [
+      | inl learned ↦ learn_losses proxy address old run.0 learned
+      | inr same ↦ losses_same old run.0 same
+    ]) (calls_keep opening calls run.0 new run.2)
+calls_keep opening (Restart place ∷ calls) old new run =
+    losses_then old.pool run.0.pool new.pool (elim run.1 [
+      | inl restarted ↦ restart_losses place opening old run.0 restarted
+      | inr same ↦ losses_same old run.0 same
+    ]) (calls_keep opening calls run.0 new run.2)
 
--- a step, a join, and a restart, which may have been refused, keep it
+pub called_losses : (losses : Losses) (opening : CacheState) (calls : List Call) (old new : CourseState) → HaveChoice losses old.pool → Calls opening calls old new
+    → HaveChoice losses new.pool
+called_losses losses opening calls old new one run = choice_kept losses old.pool new.pool (calls_keep opening calls old new run) one
+
+-- a step, a join, a proxy that learns a server, and a restart, which may have been refused, keep them
 pub stepped_losses : (event : Event (List ℕ)) (r : Result AStep WorldError) (old new : CourseState) → IfOk r (λ step. Does step (IsDone event old new) (new ≡ old))
-    → OnErr r (new ≡ old) → new.pool.proxy.losses ≡ old.pool.proxy.losses
+    → OnErr r (new ≡ old) → KeepLosses old.pool new.pool
 stepped_losses event (Ok Done) old new done refused = happened_losses event old.pool new.pool done.pool
-stepped_losses event (Ok Nothing) old new done refused = kept old new done
-stepped_losses event (Err e) old new done refused = kept old new refused
+stepped_losses event (Ok Nothing) old new done refused = losses_same old new done
+stepped_losses event (Err e) old new done refused = losses_same old new refused
 
-pub joined_losses : {T E : Type 0} (address : List ℕ) (cache : CacheState) (r : Result T E) (old new : CourseState) → OnOk r (HasServerJoined address cache old new)
-    → OnErr r (new ≡ old) → new.pool.proxy.losses ≡ old.pool.proxy.losses
-joined_losses address cache (Ok value) old new joined refused = joined.pool.proxy.losses
-joined_losses address cache (Err e) old new joined refused = kept old new refused
+pub joined_losses : {T E : Type 0} (proxy : ℕ) (address : List ℕ) (cache : CacheState) (r : Result T E) (old new : CourseState) → OnOk r (HasServerJoined proxy address cache old new)
+    → OnErr r (new ≡ old) → KeepLosses old.pool new.pool
+joined_losses proxy address cache (Ok value) old new joined refused = join_losses proxy address cache old new joined
+joined_losses proxy address cache (Err e) old new joined refused = losses_same old new refused
+
+pub learned_losses : {T E : Type 0} (proxy : ℕ) (address : List ℕ) (r : Result T E) (old new : CourseState) → OnOk r (HasLearnedServer proxy address old new)
+    → OnErr r (new ≡ old) → KeepLosses old.pool new.pool
+learned_losses proxy address (Ok value) old new learned refused = learn_losses proxy address old new learned
+learned_losses proxy address (Err e) old new learned refused = losses_same old new refused
 
 pub restarted_losses : {T E : Type 0} (place : ℕ) (cache : CacheState) (r : Result T E) (old new : CourseState) → OnOk r (HasServerRestarted place cache old new)
-    → OnErr r (new ≡ old) → new.pool.proxy.losses ≡ old.pool.proxy.losses
-restarted_losses place cache (Ok value) old new restarted refused = restart_keeps_losses place cache old new restarted
-restarted_losses place cache (Err e) old new restarted refused = kept old new refused
+    → OnErr r (new ≡ old) → KeepLosses old.pool new.pool
+restarted_losses place cache (Ok value) old new restarted refused = restart_losses place cache old new restarted
+restarted_losses place cache (Err e) old new restarted refused = losses_same old new refused
 
 -- the first requests of a client
 own_chosen : (losses : Losses) (v : Bool) (e : TakenRequest) (mine : Order) → HasChoice losses e → All (HasChoice losses) mine → All (HasChoice losses) (if v then e ∷ mine else mine)

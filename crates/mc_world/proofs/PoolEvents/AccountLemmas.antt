@@ -19,6 +19,7 @@ use Rattle.mc_history.specs.declared.entries.Entry.{Entry}
 use Rattle.mc_world.specs.Accounts.{Accounts}
 use Rattle.mc_history.specs.Histories.{IsLegal}
 use Rattle.mc_history.specs.Made.{AreMade, Each, Made, entry_of}
+use Rattle.mc_world.specs.Homes.{Homes}
 use Rattle.mc_world.specs.Sites.{SiteHolds}
 use Rattle.mc_world.specs.WorldState.{SiteState}
 use Rattle.mc_history.specs.Named.{IsNamed}
@@ -51,17 +52,17 @@ legal_history place order s (m ∷ ms) h named = (
   legal_history place order (step_of s m.command.0 m.moment m.refused).0 ms h.1 named.1,
 )
 
-pub legal_site : (place : ℕ) (order : Order) (lane : Lane) (link : LinkState) (opening : CacheState) (site : SiteState) → SiteHolds place order lane link opening site
-    → IsLegal order place opening (drop site.begun site.history)
-legal_site place order lane link opening site h =
+pub legal_site : (home : Homes) (place : ℕ) (order : Order) (lanes : ℕ → Lane) (links : ℕ → LinkState) (opening : CacheState) (site : SiteState)
+    → SiteHolds home place order lanes links opening site → IsLegal order place opening (drop site.begun site.history)
+legal_site home place order lanes links opening site h =
     let now : drop site.begun site.history ≡ map entry_of h.made =
     ap (λ (n : ℕ). drop n site.history) (sym h.begun) ∙ ap (λ (es : List Entry). drop (length h.past) es) h.history
     ∙ drop-map entry_of (length h.past) (h.past ++ h.made) ∙ ap (λ (ms : List Made). map entry_of ms) (drop-append_seam h.past h.made) in
     subst (λ (es : List Entry). IsLegal order place opening es) (sym now)
     (legal_history place order opening h.made h.answers (each_back (λ (m : Made). IsNamed place order m.command) h.past h.made h.named))
 
-pub nothing_accounts : (losses : Losses) (ring : RingState) (opening : CacheState) → Accounts losses ring opening [] (λ _. []) (λ _. []) (λ _. []) []
-nothing_accounts losses ring opening = record {
+pub nothing_accounts : (home : Homes) (losses : Losses) (ring : RingState) (opening : CacheState) → Accounts home losses ring opening [] (λ _. []) (λ _. []) (λ _. []) []
+nothing_accounts home losses ring opening = record {
   asked = λ client. ([], sym no_requests);
   turns = refl;
   numbered = λ client. refl;
@@ -72,7 +73,7 @@ nothing_accounts losses ring opening = record {
   replied = λ tag place atom reply at. absurd (none-some _ at);
   lost = λ tag place atom at. absurd (none-some _ at);
   ordered = λ place j k d e r q at. absurd (none-some d at);
-  followed = λ place never. ([], refl);
+  followed = λ proxy place never. ([], refl);
   answered = λ client. refl;
   put = λ client. refl;
   after = λ client request early. absurd (omega (arith, early));

@@ -1,6 +1,6 @@
 -- When events apply to a pool, and what was done if they did.
-use Rattle.std.proofs.Common.{◌≡◌, ◌≢◌, ◌∙◌, ℕ, zero, suc, ◌+◌, ◌-◌, ◌^◌, ◌<◌, ◌≤◌, ◌==◌, ◌&&◌, ◌⊎◌, inl, inr, Bool, true, false, not, min, List, [], ◌∷◌, ◌++◌, length, drop, take, Option, Some, None, Result, Ok, Err, slice_get, slice_set, refl, sym, ap, subst, arith}
-use Rattle.std.specs.Prelude.{IfErr, OnErr, IsErrOf, IsOkUnless, IsTrue, nat_lt, slice_index_or}
+use Rattle.std.proofs.Common.{◌≡◌, ◌≢◌, ◌∙◌, ℕ, zero, suc, ◌+◌, ◌-◌, ◌^◌, ◌<◌, ◌==◌, ◌&&◌, Bool, true, false, not, min, List, [], ◌∷◌, ◌++◌, length, drop, take, Option, Some, None, Result, Ok, Err, slice_get, slice_set, refl, sym, ap, subst, arith}
+use Rattle.std.specs.Prelude.{OnErr, IsErrOf, IsOkUnless, IsTrue, nat_lt, slice_index_or}
 use Rattle.std.specs.Result.{IsOk}
 use Rattle.std.proofs.lemmas.Bool.{and_from, and_parts, eqb-true, lt-ltb, ltb-true}
 use Rattle.std.proofs.lemmas.List.{drop_min, take_min}
@@ -12,20 +12,18 @@ use Rattle.mc_reply.specs.declared.replies.Reply.{Reply as AReply}
 use Rattle.mc_codec.proofs.HeadLemmas.{begun_is_not_whole}
 use Rattle.mc_route.specs.Routes.{route_of_taken}
 use Rattle.mc_link.specs.LinkState.{LinkState, Waiting, can_come_back, up_link}
-use Rattle.mc_link.specs.Turns.{HasReply, HasStrange, IsIdle, Takes}
+use Rattle.mc_link.specs.Turns.{HasStrange, IsIdle, Takes}
 use Rattle.mc_link.specs.declared.turns.Tag.{Tag}
 use Rattle.mc_server.specs.ServerState.{ConnectionState, ServerState, connection_at, output_of, sent_by}
 use Rattle.mc_proxy.specs.Looks.{IsReady}
 use Rattle.mc_proxy.specs.Sending.{is_marked}
-use Rattle.mc_proxy.specs.SessionState.{SessionState, link_at, with_link}
+use Rattle.mc_proxy.specs.SessionState.{SessionState, link_at}
 use Rattle.mc_proxy.specs.SessionTurns.{IsTurn}
 use Rattle.mc_proxy.specs.declared.session_turns.SessionTurn.{SessionTurn}
 use Rattle.mc_proxy.specs.declared.session_turns.SessionTurn.TheVariants as turns
 use Rattle.mc_proxy.specs.LinkTurns.{IsLinkTurn}
 use Rattle.mc_proxy.specs.ProxyState.{ProxyState, session_at}
 use Rattle.mc_proxy.specs.Turns.{Steps}
-use Rattle.mc_proxy.specs.declared.errors.ProxyError.{ProxyError}
-use Rattle.mc_proxy.specs.declared.errors.ProxyError.TheVariants as causes
 use Rattle.mc_proxy.specs.declared.turns.LinkStep.{LinkStep}
 use Rattle.mc_proxy.specs.declared.turns.LinkStep.TheVariants as replies
 use Rattle.mc_account.proofs.LaneLemmas.{up_is_there}
@@ -33,15 +31,15 @@ use Rattle.mc_account.proofs.OpenSessions.{own_number}
 use Rattle.mc_server.specs.Turns.{waiting_of}
 use Rattle.mc_server.specs.declared.turns.ServerError.{ServerError}
 use Rattle.mc_server.specs.declared.turns.ServerError.TheVariants as reasons
-use Rattle.mc_world.specs.Applies.{CanServe, CanServeLate, CanTakeRequest, IsUp, Lives, way_of}
+use Rattle.mc_world.specs.Applies.{CanServe, CanServeLate, CanTakeRequest, IsUp, Lives, is_way, way_of}
 use Rattle.mc_world.specs.Happens.{Arrives, ArrivesLate, ComesBack, Ends, EntersLate, returned}
-use Rattle.mc_world.specs.Pools.{EndSeen, LateBytes, LateTurn, LinkReturns, ReachesProxy, ReachesServer}
+use Rattle.mc_world.specs.Pools.{EndSeen, LateBytes, LateTurn, LinkReturns, ReachesProxy, ReachesServer, relinked}
 use Rattle.mc_world.specs.Serving.{PoolServes}
-use Rattle.mc_world.specs.WorldState.{PoolState, SiteState, StaleState, histories_of}
+use Rattle.mc_world.specs.WorldState.{PoolState, SiteState, StaleState, histories_of, proxy_at, proxy_in, proxy_of, way_by, with_proxy}
 use Rattle.mc_world.specs.declared.errors.Step.TheVariants.{Done, Nothing}
 
-abbrev pub pool_of : ProxyState → List SiteState → PoolState
-pool_of proxy sites = record { proxy = proxy; sites = sites }
+abbrev pub pool_of : List ℕ → List ProxyState → List SiteState → PoolState
+pool_of homes proxies sites = record { homes = homes; proxies = proxies; sites = sites }
 
 -- an event was done, and applies; nothing was done, and it does not
 pub it_applies : {P : Type 0} → P → (Done ≡ Done → P) × (P → Done ≡ Done)
@@ -55,20 +53,21 @@ pub at_error : {T E : Type 0} (P : Type 0) (r : Result T E) → P → OnErr r P
 at_error P (Ok value) is = tt
 at_error P (Err e) is = is
 
--- a generation lives
-pub lives_by : (place generation own : ℕ) (pool : PoolState) (site : SiteState) → slice_get pool.sites place ≡ Some site → IsUp place pool → own ≡ site.generation
-    → (IsTrue (own == generation) → Lives place generation pool) × (Lives place generation pool → IsTrue (own == generation))
-lives_by place generation own pool site at up own_is = (
+-- a generation of a proxy's link lives
+pub lives_by : (proxy place generation own : ℕ) (pool : PoolState) (site : SiteState) → slice_get pool.sites place ≡ Some site → IsUp proxy place pool
+    → own ≡ (way_by site proxy).generation
+    → (IsTrue (own == generation) → Lives proxy place generation pool) × (Lives proxy place generation pool → IsTrue (own == generation))
+lives_by proxy place generation own pool site at up own_is = (
   λ same. record { site = site; at = at; is = sym own_is ∙ eqb-true own generation same; up = up },
   λ h.
       let same : site ≡ h.site = same_Some site h.site (sym at ∙ h.at) in
-      let is : own ≡ generation = own_is ∙ ap (λ (s : SiteState). s.generation) same ∙ h.is in
+      let is : own ≡ generation = own_is ∙ ap (λ (s : SiteState). (way_by s proxy).generation) same ∙ h.is in
       ap (λ (n : ℕ). own == n) (sym is) ∙ own_number own,
 )
 
-pub lives_nowhere : (place generation : ℕ) (pool : PoolState) → slice_get pool.sites place ≡ None
-    → (IsTrue false → Lives place generation pool) × (Lives place generation pool → IsTrue false)
-lives_nowhere place generation pool none = (λ never. absurd cc, λ h. absurd (none-some h.site (sym none ∙ h.at)))
+pub lives_nowhere : (proxy place generation : ℕ) (pool : PoolState) → slice_get pool.sites place ≡ None
+    → (IsTrue false → Lives proxy place generation pool) × (Lives proxy place generation pool → IsTrue false)
+lives_nowhere proxy place generation pool none = (λ never. absurd cc, λ h. absurd (none-some h.site (sym none ∙ h.at)))
 
 -- a turn of a session that takes nothing finds no request that is ready
 nothing_closed : (s : ReaderState) → s.closed ≡ true → rest_of s [] ≡ []
@@ -95,54 +94,64 @@ not_ready number turns.Closing old new differ h session at ready =
     absurd cc
 
 -- a turn that takes a request finds one that is ready
-pub was_ready : (number : ℕ) (old new : ProxyState) (sites : List SiteState) → Steps number old new (IsTurn number turns.Took old.ring old.losses) → CanTakeRequest number (pool_of old sites)
-was_ready number old new sites h = (
+pub was_ready : (client : ℕ) (pool : PoolState) (now : ProxyState)
+    → Steps client (proxy_of pool client) now (IsTurn client turns.Took (proxy_of pool client).ring (proxy_of pool client).losses) → CanTakeRequest client pool
+was_ready client pool now h = (
   h.before,
   h.was,
   record { what = h.step.0; others = rest_of h.after.reader []; first = h.step.1.first.rest []; unmarked = h.step.1.unmarked },
 )
 
 -- a link that is up has a site
-pub site_there : (place : ℕ) (pool : PoolState) → PoolServes pool → IsUp place pool → place < length pool.sites
-site_there place pool serves up = omega (arith, up_is_there place pool.proxy.links up, serves.sited)
+pub site_there : (proxy place : ℕ) (pool : PoolState) → PoolServes pool → IsUp proxy place pool → place < length pool.sites
+site_there proxy place pool serves up = omega (arith, up_is_there place (proxy_at pool proxy).links up, serves.sited proxy)
 
 -- bytes arrive at a server
-pub reached_server : (place count : ℕ) (proxy proxy' : ProxyState) (sites : List SiteState) (site now : SiteState) → slice_get sites place ≡ Some site
-    → (link_at proxy.links place).up ≡ true
-    → Arrives (take (min count (length (link_at proxy.links place).output)) (link_at proxy.links place).output) site now
-    → proxy' ≡ record proxy {
-      links = with_link place (record (link_at proxy.links place) {
-        output = drop (min count (length (link_at proxy.links place).output)) (link_at proxy.links place).output;
-      }) proxy.links;
+pub reached_server : (proxy place count : ℕ) (homes : List ℕ) (proxies proxies' : List ProxyState) (sites : List SiteState) (site now : SiteState)
+    → slice_get sites place ≡ Some site → (link_at (proxy_in proxies proxy).links place).up ≡ true
+    → Arrives proxy (take (min count (length (link_at (proxy_in proxies proxy).links place).output)) (link_at (proxy_in proxies proxy).links place).output) site now
+    → proxies' ≡ with_proxy proxy (relinked place (record (link_at (proxy_in proxies proxy).links place) {
+      output = drop (min count (length (link_at (proxy_in proxies proxy).links place).output)) (link_at (proxy_in proxies proxy).links place).output;
+    }) (proxy_in proxies proxy)) proxies
+    → ReachesServer proxy place count (pool_of homes proxies sites) (pool_of homes proxies' (slice_set sites place now))
+reached_server proxy place count homes proxies proxies' sites site now at up arrives is =
+    let p : ProxyState = proxy_in proxies proxy in
+    let link : LinkState = link_at p.links place in
+    record {
+      there = record { site = site; now = now; at = at; up = up; sites = refl };
+      arrives = subst (λ (piece : List ℕ). Arrives proxy piece site now) (take_min count link.output) arrives;
+      proxy = record {
+        proxies = is ∙ ap (λ (bytes : List ℕ). with_proxy proxy (relinked place (record link { output = bytes }) p) proxies) (drop_min count link.output);
+        homes = refl;
+      };
     }
-    → ReachesServer place count (pool_of proxy sites) (pool_of proxy' (slice_set sites place now))
-reached_server place count proxy proxy' sites site now at up arrives is = record {
-  there = record { site = site; now = now; at = at; up = up; sites = refl };
-  arrives = subst (λ (piece : List ℕ). Arrives piece site now) (take_min count (link_at proxy.links place).output) arrives;
-  proxy = is ∙ ap (λ (bytes : List ℕ). record proxy { links = with_link place (record (link_at proxy.links place) { output = bytes }) proxy.links }) (drop_min count (link_at proxy.links place).output);
-}
 
 -- bytes arrive at the proxy
 sent_min : (number count : ℕ) (end : Option ConnectionState) (server : ServerState) → sent_by number (min count (length (output_of end))) end server ≡ sent_by number count end server
 sent_min number count None server = refl
 sent_min number count (Some end) server = ap (λ (bytes : List ℕ). sent_by number 0 (Some (record end { output = bytes })) server) (drop_min count end.output)
 
-pub reached_proxy : (place count : ℕ) (proxy proxy' : ProxyState) (sites : List SiteState) (site now : SiteState) → slice_get sites place ≡ Some site
-    → (link_at proxy.links place).up ≡ true
-    → now ≡ returned (min count (length (output_of (connection_at site.server site.connection)))) site
-    → proxy' ≡ record proxy {
-      links = with_link place (record (link_at proxy.links place) {
-        unread = (link_at proxy.links place).unread
-            ++ take (min count (length (output_of (connection_at site.server site.connection)))) (output_of (connection_at site.server site.connection));
-      }) proxy.links;
+pub reached_proxy : (proxy place count : ℕ) (homes : List ℕ) (proxies proxies' : List ProxyState) (sites : List SiteState) (site now : SiteState)
+    → slice_get sites place ≡ Some site → (link_at (proxy_in proxies proxy).links place).up ≡ true
+    → now ≡ returned proxy (min count (length (output_of (connection_at site.server (way_by site proxy).connection)))) site
+    → proxies' ≡ with_proxy proxy (relinked place (record (link_at (proxy_in proxies proxy).links place) {
+      unread = (link_at (proxy_in proxies proxy).links place).unread
+          ++ take (min count (length (output_of (connection_at site.server (way_by site proxy).connection)))) (output_of (connection_at site.server (way_by site proxy).connection));
+    }) (proxy_in proxies proxy)) proxies
+    → ReachesProxy proxy place count (pool_of homes proxies sites) (pool_of homes proxies' (slice_set sites place now))
+reached_proxy proxy place count homes proxies proxies' sites site now at up leaves is =
+    let p : ProxyState = proxy_in proxies proxy in
+    let link : LinkState = link_at p.links place in
+    let number : ℕ = (way_by site proxy).connection in
+    record {
+      there = record { site = site; now = now; at = at; up = up; sites = refl };
+      leaves = leaves ∙ ap (λ (s : ServerState). record site { server = s }) (sent_min number count (connection_at site.server number) site.server);
+      proxy = record {
+        proxies = is ∙ ap (λ (bytes : List ℕ). with_proxy proxy (relinked place (record link { unread = link.unread ++ bytes }) p) proxies)
+            (take_min count (output_of (connection_at site.server number)));
+        homes = refl;
+      };
     }
-    → ReachesProxy place count (pool_of proxy sites) (pool_of proxy' (slice_set sites place now))
-reached_proxy place count proxy proxy' sites site now at up leaves is = record {
-  there = record { site = site; now = now; at = at; up = up; sites = refl };
-  leaves = leaves ∙ ap (λ (s : ServerState). record site { server = s }) (sent_min site.connection count (connection_at site.server site.connection) site.server);
-  proxy = is ∙ ap (λ (bytes : List ℕ). record proxy { links = with_link place (record (link_at proxy.links place) { unread = (link_at proxy.links place).unread ++ bytes }) proxy.links })
-      (take_min count (output_of (connection_at site.server site.connection)));
-}
 
 -- a link that is idle has no whole reply
 idle_by : (head : _) (tag : Tag) (waiting waits : List Waiting) (unread : List ℕ) → waits ≡ (head, tag) ∷ waiting → IsIdle waits unread → IsIdle ((head, tag) ∷ waiting) unread
@@ -178,46 +187,23 @@ none_left link last can =
 pub can_return : (link : LinkState) → link.up ≡ false → link.generation < 2 ^ 64 - 1 → can_come_back link ≡ true
 can_return link down below = and_from (not link.up) (nat_lt link.generation (2 ^ 64 - 1)) (ap not down) (lt-ltb link.generation (2 ^ 64 - 1) below)
 
-pub comes_back : {X : Type 0} (r : Result X ProxyError) (links : List LinkState) (place : ℕ) → place < length links → can_come_back (link_at links place) ≡ true
-    → (IsErrOf r causes.NoLink → length links ≤ place) → (IsErrOf r causes.LinkState → can_come_back (link_at links place) ≡ false)
-    → IfErr r (λ (e : ProxyError). (e ≡ causes.NoLink) ⊎ (e ≡ causes.LinkState)) → IsOk r
-comes_back (Ok x) links place inside can no_link state only = refl
-comes_back (Err e) links place inside can no_link state only = elim only [
-  | inl is ↦ (let past = no_link (ap (λ (x : ProxyError). Err x) is) in absurd (omega (arith, inside, past)))
-  | inr is ↦ (let clash : true ≡ false = sym can ∙ state (ap (λ (x : ProxyError). Err x) is) in absurd cc)
-]
-
--- a turn of a link that is up fails only if a whole reply has arrived
-pub gives_up : {X : Type 0} (r : Result X ProxyError) (links : List LinkState) (place : ℕ) → (link_at links place).up ≡ true
-    → (IsErrOf r causes.Memory → HasReply (link_at links place)) → (IsErrOf r causes.NoLink → length links ≤ place)
-    → (IsErrOf r causes.LinkState → (link_at links place).up ≡ false)
-    → IfErr r (λ (e : ProxyError). (e ≡ causes.NoLink) ⊎ (e ≡ causes.LinkState) ⊎ (e ≡ causes.Memory)) → OnErr r (HasReply (link_at links place))
-gives_up (Ok x) links place up memory no_link state only = tt
-gives_up (Err e) links place up memory no_link state only = elim only [
-  | inl is ↦ (let past = no_link (ap (λ (x : ProxyError). Err x) is) in let inside = up_is_there place links up in absurd (omega (arith, inside, past)))
-  | inr other ↦ elim other [
-    | inl is ↦ (let clash : true ≡ false = sym up ∙ state (ap (λ (x : ProxyError). Err x) is) in absurd cc)
-    | inr is ↦ memory (ap (λ (x : ProxyError). Err x) is)
-  ]
-]
-
--- the way of a generation
-pub record FoundWay (generation : ℕ) (ways : List StaleState) (i : ℕ) : Type 0 where
+-- the way of a generation of a proxy
+pub record FoundWay (proxy generation : ℕ) (ways : List StaleState) (i : ℕ) : Type 0 where
   pub way : StaleState
   pub at : slice_get ways i ≡ Some way
-  pub is : way.generation ≡ generation
+  pub is : is_way proxy generation way ≡ true
   pub inside : i < length ways
 
-abbrev no_way : StaleState
-no_way = record { generation = 0; connection = 0; going = []; untaken = [] }
+abbrev some_way : StaleState
+some_way = record { proxy = 0; generation = 0; connection = 0; going = []; untaken = [] }
 
-pub found_way : (generation : ℕ) (ways : List StaleState) (i : ℕ) → way_of generation ways ≡ Some i → FoundWay generation ways i
-found_way generation ways i found =
-    let facts = position-Some (λ (way : StaleState). way.generation == generation) ways i no_way found in
+pub found_way : (proxy generation : ℕ) (ways : List StaleState) (i : ℕ) → way_of proxy generation ways ≡ Some i → FoundWay proxy generation ways i
+found_way proxy generation ways i found =
+    let facts = position-Some (is_way proxy generation) ways i some_way found in
     record {
-      way = slice_index_or ways i no_way;
-      at = slice_get-get_or ways i no_way facts.0;
-      is = eqb-true (slice_index_or ways i no_way).generation generation facts.1;
+      way = slice_index_or ways i some_way;
+      at = slice_get-get_or ways i some_way facts.0;
+      is = facts.1;
       inside = facts.0;
     }
 
@@ -234,70 +220,77 @@ history_nowhere (s ∷ ss) zero none = absurd (none-some s (sym none))
 history_nowhere (s ∷ ss) (suc place) none = history_nowhere ss place none
 
 -- a link came up again
-pub came_back : (place : ℕ) (proxy proxy' : ProxyState) (sites : List SiteState) (site now : SiteState) → slice_get sites place ≡ Some site → place < length proxy.links
-    → site.generation ≡ (link_at proxy.links place).generation → can_come_back (link_at proxy.links place) ≡ true → ComesBack (site.generation + 1) site now
-    → proxy' ≡ record proxy { links = with_link place (up_link ((link_at proxy.links place).generation + 1)) proxy.links }
-    → LinkReturns place (pool_of proxy sites) (pool_of proxy' (slice_set sites place now))
-came_back place proxy proxy' sites site now at inside generation can back is = record {
+pub came_back : (proxy place : ℕ) (homes : List ℕ) (proxies proxies' : List ProxyState) (sites : List SiteState) (site now : SiteState)
+    → slice_get sites place ≡ Some site → place < length (proxy_in proxies proxy).links
+    → (way_by site proxy).generation ≡ (link_at (proxy_in proxies proxy).links place).generation
+    → can_come_back (link_at (proxy_in proxies proxy).links place) ≡ true → ComesBack proxy ((way_by site proxy).generation + 1) site now
+    → proxies' ≡ with_proxy proxy (relinked place (up_link ((link_at (proxy_in proxies proxy).links place).generation + 1)) (proxy_in proxies proxy)) proxies
+    → LinkReturns proxy place (pool_of homes proxies sites) (pool_of homes proxies' (slice_set sites place now))
+came_back proxy place homes proxies proxies' sites site now at inside generation can back is = record {
   site = site;
   now = now;
   at = at;
   inside = inside;
   can = can;
-  back = subst (λ (n : ℕ). ComesBack (n + 1) site now) generation back;
+  back = subst (λ (n : ℕ). ComesBack proxy (n + 1) site now) generation back;
   sites = refl;
-  proxy = is;
+  proxy = record { proxies = is; homes = refl };
 }
 
 -- a server that can serve has a request of a pending command
-pub serves_if : (place : ℕ) (pool : PoolState) (site : SiteState) → slice_get pool.sites place ≡ Some site → CanServe place pool
-    → 0 < length (waiting_of (connection_at site.server site.connection))
-serves_if place pool site at can =
-    subst (λ (s : SiteState). 0 < length (waiting_of (connection_at s.server s.connection))) (same_Some can.site site (sym can.at ∙ at)) can.waits
+pub serves_if : (proxy place : ℕ) (pool : PoolState) (site : SiteState) → slice_get pool.sites place ≡ Some site → CanServe proxy place pool
+    → 0 < length (waiting_of (connection_at site.server (way_by site proxy).connection))
+serves_if proxy place pool site at can =
+    subst (λ (s : SiteState). 0 < length (waiting_of (connection_at s.server (way_by s proxy).connection))) (same_Some can.site site (sym can.at ∙ at)) can.waits
 
 -- the way at an index is one
-pub same_way : (generation i : ℕ) (ways : List StaleState) (found : FoundWay generation ways i) (way : StaleState) → slice_get ways i ≡ Some way
+pub same_way : (proxy generation i : ℕ) (ways : List StaleState) (found : FoundWay proxy generation ways i) (way : StaleState) → slice_get ways i ≡ Some way
     → way ≡ found.way
-same_way generation i ways found way at = same_Some way found.way (sym at ∙ found.at)
+same_way proxy generation i ways found way at = same_Some way found.way (sym at ∙ found.at)
+
+is_found : (proxy generation i : ℕ) (ways : List StaleState) (found : FoundWay proxy generation ways i) (way : StaleState) → slice_get ways i ≡ Some way
+    → is_way proxy generation way ≡ true
+is_found proxy generation i ways found way at = ap (λ (w : StaleState). is_way proxy generation w) (same_way proxy generation i ways found way at) ∙ found.is
 
 -- bytes of a lost generation arrived
-pub reached_late : (place i count generation : ℕ) (proxy : ProxyState) (sites : List SiteState) (site now : SiteState) → slice_get sites place ≡ Some site
-    → FoundWay generation site.lost i → ArrivesLate i count site now
-    → (j : ℕ) × (h : LateBytes place j count (pool_of proxy sites) (pool_of proxy (slice_set sites place now))) × (h.arrives.way.generation ≡ generation)
-reached_late place i count generation proxy sites site now at found h = (
+pub reached_late : (proxy place i count generation : ℕ) (homes : List ℕ) (proxies : List ProxyState) (sites : List SiteState) (site now : SiteState)
+    → slice_get sites place ≡ Some site → FoundWay proxy generation site.lost i → ArrivesLate i count site now
+    → (j : ℕ) × (h : LateBytes place j count (pool_of homes proxies sites) (pool_of homes proxies (slice_set sites place now))) × (is_way proxy generation h.arrives.way ≡ true)
+reached_late proxy place i count generation homes proxies sites site now at found h = (
   i,
-  record { there = record { site = site; now = now; at = at; sites = refl; proxy = refl }; arrives = h },
-  ap (λ (w : StaleState). w.generation) (same_way generation i site.lost found h.way h.way_at) ∙ found.is,
+  record { there = record { site = site; now = now; at = at; sites = refl; proxies = record { proxies = refl; homes = refl } }; arrives = h },
+  is_found proxy generation i site.lost found h.way h.way_at,
 )
 
 -- a server took a request of it
-pub served_late : (place i moment generation : ℕ) (proxy : ProxyState) (sites : List SiteState) (site now : SiteState) → slice_get sites place ≡ Some site
-    → FoundWay generation site.lost i → EntersLate i moment site now
-    → (j : ℕ) × (h : LateTurn place j moment (pool_of proxy sites) (pool_of proxy (slice_set sites place now))) × (h.enters.way.generation ≡ generation)
-served_late place i moment generation proxy sites site now at found h = (
+pub served_late : (proxy place i moment generation : ℕ) (homes : List ℕ) (proxies : List ProxyState) (sites : List SiteState) (site now : SiteState)
+    → slice_get sites place ≡ Some site → FoundWay proxy generation site.lost i → EntersLate i moment site now
+    → (j : ℕ) × (h : LateTurn place j moment (pool_of homes proxies sites) (pool_of homes proxies (slice_set sites place now))) × (is_way proxy generation h.enters.way ≡ true)
+served_late proxy place i moment generation homes proxies sites site now at found h = (
   i,
-  record { there = record { site = site; now = now; at = at; sites = refl; proxy = refl }; enters = h },
-  ap (λ (w : StaleState). w.generation) (same_way generation i site.lost found h.way h.way_at) ∙ found.is,
+  record { there = record { site = site; now = now; at = at; sites = refl; proxies = record { proxies = refl; homes = refl } }; enters = h },
+  is_found proxy generation i site.lost found h.way h.way_at,
 )
 
-pub late_serves_if : (place generation i : ℕ) (pool : PoolState) (site : SiteState) (way : StaleState) → slice_get pool.sites place ≡ Some site → way_of generation site.lost ≡ Some i
-    → slice_get site.lost i ≡ Some way → CanServeLate place generation pool → 0 < length (waiting_of (connection_at site.server way.connection))
-late_serves_if place generation i pool site way at first way_at can =
+pub late_serves_if : (proxy place generation i : ℕ) (pool : PoolState) (site : SiteState) (way : StaleState) → slice_get pool.sites place ≡ Some site
+    → way_of proxy generation site.lost ≡ Some i → slice_get site.lost i ≡ Some way → CanServeLate proxy place generation pool
+    → 0 < length (waiting_of (connection_at site.server way.connection))
+late_serves_if proxy place generation i pool site way at first way_at can =
     let same : can.there.site ≡ site = same_Some can.there.site site (sym can.there.at ∙ at) in
-    let place_is : can.there.i ≡ i = same_Some can.there.i i (sym can.there.first ∙ ap (λ (s : SiteState). way_of generation s.lost) same ∙ first) in
+    let place_is : can.there.i ≡ i = same_Some can.there.i i (sym can.there.first ∙ ap (λ (s : SiteState). way_of proxy generation s.lost) same ∙ first) in
     let way_is : can.there.way ≡ way = same_Some can.there.way way
     (sym can.there.way_at ∙ ap (λ (s : SiteState). slice_get s.lost can.there.i) same ∙ ap (λ (n : ℕ). slice_get site.lost n) place_is ∙ way_at) in
     subst (λ (w : StaleState). 0 < length (waiting_of (connection_at site.server w.connection))) way_is
     (subst (λ (s : SiteState). 0 < length (waiting_of (connection_at s.server can.there.way.connection))) same can.waits)
 
 -- its end was seen
-pub saw_end : (place i generation : ℕ) (proxy : ProxyState) (sites : List SiteState) (site now : SiteState) → slice_get sites place ≡ Some site
-    → FoundWay generation site.lost i → Ends i site now
-    → (j : ℕ) × (h : EndSeen place j (pool_of proxy sites) (pool_of proxy (slice_set sites place now))) × (h.ends.way.generation ≡ generation)
-saw_end place i generation proxy sites site now at found h = (
+pub saw_end : (proxy place i generation : ℕ) (homes : List ℕ) (proxies : List ProxyState) (sites : List SiteState) (site now : SiteState)
+    → slice_get sites place ≡ Some site → FoundWay proxy generation site.lost i → Ends i site now
+    → (j : ℕ) × (h : EndSeen place j (pool_of homes proxies sites) (pool_of homes proxies (slice_set sites place now))) × (is_way proxy generation h.ends.way ≡ true)
+saw_end proxy place i generation homes proxies sites site now at found h = (
   i,
-  record { there = record { site = site; now = now; at = at; sites = refl; proxy = refl }; ends = h },
-  ap (λ (w : StaleState). w.generation) (same_way generation i site.lost found h.way h.way_at) ∙ found.is,
+  record { there = record { site = site; now = now; at = at; sites = refl; proxies = record { proxies = refl; homes = refl } }; ends = h },
+  is_found proxy generation i site.lost found h.way h.way_at,
 )
 
 -- a connection that is open can be closed

@@ -5,22 +5,27 @@ use Rattle.std.proofs.lemmas.Option.{none-some, same_Some}
 use Rattle.mc_route.specs.Routes.{to_place}
 use Rattle.mc_route.specs.declared.routes.Routed.{Routed}
 use Rattle.mc_request.specs.declared.parts.Atom.{Atom}
+use Rattle.mc_request.specs.declared.parts.Parsed.{Parsed}
+use Rattle.mc_request.specs.Requests.{requests_of}
 use Rattle.mc_link.specs.LinkState.{LinkState}
 use Rattle.mc_link.specs.declared.turns.Tag.{Tag}
 use Rattle.mc_cache.specs.CacheState.{CacheState}
-use Rattle.mc_proxy.specs.SessionState.{link_at}
 use Rattle.mc_proxy.specs.ProxyState.{session_at}
 use Rattle.mc_account.specs.Lanes.{Lane}
-use Rattle.mc_account.specs.Orders.{Order, Tagged, AreInOrder, commands_to, entries_of}
+use Rattle.mc_account.specs.Orders.{Order, Tagged, AreInOrder, IsSized, commands_to, entries_of}
 use Rattle.mc_account.proofs.SessionLemmas.{session_left}
 use Rattle.mc_account.proofs.TagLemmas.{count, count_to, same_tag_self, tag_once, weight}
 use Rattle.mc_history.specs.declared.entries.Entry.{Entry}
 use Rattle.mc_world.specs.Accounts.{AccountsForCommands}
 use Rattle.mc_history.specs.Histories.{IsLegal, tag_in}
 use Rattle.mc_history.specs.Made.{Each, Made, entry_of}
+use Rattle.mc_world.specs.Homes.{Homes, of_proxy, own_of}
 use Rattle.mc_world.specs.Pools.{PoolHolds}
 use Rattle.mc_world.specs.Sites.{SiteHolds}
-use Rattle.mc_world.specs.WorldState.{PoolState, SiteState, begun_of, histories_of}
+use Rattle.mc_world.specs.WorldState.{PoolState, SiteState, begun_of, histories_of, home_of, link_of, proxy_at}
+use Rattle.mc_world.proofs.Homes.CommandLemmas.{all_whole}
+use Rattle.mc_world.proofs.Homes.OrderLemmas.{numbered_whole, taken_own}
+use Rattle.mc_world.proofs.Homes.OwnLemmas.{own_bytes}
 use Rattle.mc_world.proofs.PoolEvents.AccountLemmas.{legal_site}
 use Rattle.mc_account.specs.Lookups.{command_at}
 use Rattle.mc_history.specs.Named.{IsNamed, is_tag, tags_made, tags_of, times}
@@ -82,9 +87,9 @@ named_at place order (m ∷ ms) zero d h at = let same : entry_of m ≡ d = same
 named_at place order (m ∷ ms) (suc j) d h at = named_at place order ms j d h.1 at
 
 -- no command is twice in one history
-pub site_once : (place : ℕ) (order : Order) (lane : Lane) (link : LinkState) (opening : CacheState) (site : SiteState) (j k : ℕ) (d e : Entry) → ((number : ℕ) → AreInOrder (entries_of number order))
-    → SiteHolds place order lane link opening site → slice_get site.history j ≡ Some d → slice_get site.history k ≡ Some e → tag_in d ≡ tag_in e → j ≡ k
-site_once place order lane link opening site j k d e numbered h at also same =
+pub site_once : (home : Homes) (place : ℕ) (order : Order) (lanes : ℕ → Lane) (links : ℕ → LinkState) (opening : CacheState) (site : SiteState) (j k : ℕ) (d e : Entry)
+    → ((number : ℕ) → AreInOrder (entries_of number order)) → SiteHolds home place order lanes links opening site → slice_get site.history j ≡ Some d → slice_get site.history k ≡ Some e → tag_in d ≡ tag_in e → j ≡ k
+site_once home place order lanes links opening site j k d e numbered h at also same =
     let first = stems (h.past ++ h.made) j d (ap (λ (es : List Entry). slice_get es j) (sym h.history) ∙ at) in
     let second = stems (h.past ++ h.made) k e (ap (λ (es : List Entry). slice_get es k) (sym h.history) ∙ also) in
     let tag : Tag = tag_in d in
@@ -120,16 +125,24 @@ legal_at order opening (s ∷ ss) front P legal h (suc place) =
     subst (λ (p : ℕ). IsLegal order p opening (drop (begun_of ss place) (histories_of ss place))) same
     (legal_at order opening ss (suc front) P legal (λ q site at. let next : suc q + front ≡ q + suc front = omega arith in subst (λ (p : ℕ). P p site) next (h (suc q) site at)) place)
 
-pub commands_accounted : (opening : CacheState) (texts sent : ℕ → List ℕ) (order : Order) (lanes : ℕ → Lane) (pool : PoolState) → PoolHolds opening texts sent order lanes pool
+pub commands_accounted : (opening : CacheState) (texts sent : ℕ → List ℕ) (order : Order) (lanes : ℕ → ℕ → Lane) (pool : PoolState) → PoolHolds opening texts sent order lanes pool
     → AccountsForCommands opening order texts (histories_of pool.sites) (begun_of pool.sites)
 commands_accounted opening texts sent order lanes pool h = record {
-  asked = λ client. let left = session_left client order (texts client) (sent client) (session_at pool.proxy client) (h.proxy.sessions client) in (left.untaken, left.rest);
-  sized = h.proxy.sized;
+  asked = λ client.
+      let home : Homes = home_of pool in
+      let own : Order = of_proxy home (home client) order in
+      let left = session_left client own (own_of home (home client) texts client) (own_of home (home client) sent client) (session_at (proxy_at pool (home client)) client)
+      ((h.proxies (home client)).sessions client) in (
+        left.untaken,
+        ap (λ (whats : List Parsed). whats ++ left.untaken) (sym (taken_own home (home client) client order refl)) ∙ left.rest
+            ∙ ap (λ (text : List ℕ). requests_of text) (own_bytes home (home client) texts client refl),
+      );
+  sized = all_whole IsSized (home_of pool) order (λ proxy. (h.proxies proxy).sized);
   legal = λ place. let same : place + 0 ≡ place = omega arith in
       subst (λ (p : ℕ). IsLegal order p opening (drop (begun_of pool.sites place) (histories_of pool.sites place))) same
-      (legal_at order opening pool.sites 0 (λ q site. SiteHolds q order (lanes q) (link_at pool.proxy.links q) opening site)
-      (λ q site s. legal_site q order (lanes q) (link_at pool.proxy.links q) opening site s)
-      (λ q site at. let here : q ≡ q + 0 = omega arith in subst (λ (p : ℕ). SiteHolds p order (lanes p) (link_at pool.proxy.links p) opening site) here (h.sites q site at)) place);
+      (legal_at order opening pool.sites 0 (λ q site. SiteHolds (home_of pool) q order (λ proxy. lanes proxy q) (λ proxy. link_of pool proxy q) opening site)
+      (λ q site s. legal_site (home_of pool) q order (λ proxy. lanes proxy q) (λ proxy. link_of pool proxy q) opening site s)
+      (λ q site at. let here : q ≡ q + 0 = omega arith in subst (λ (p : ℕ). SiteHolds (home_of pool) p order (λ proxy. lanes proxy p) (λ proxy. link_of pool proxy p) opening site) here (h.sites q site at)) place);
   named = λ place k e at.
       let there = site_after pool.sites place k e at in
       let holds = h.sites place there.site there.at in
@@ -147,6 +160,9 @@ commands_accounted opening texts sent order lanes pool h = record {
       let both : Some (to_place r named.0) ≡ Some (to_place s also_named.0) = sym named.1 ∙ ap (λ (t : Tag). command_at order t) same ∙ also_named.1 in
       let places : r ≡ s = ap (λ (routed : Routed). routed.server) (same_Some (to_place r named.0) (to_place s also_named.0) both) in
       let moved : slice_get (histories_of pool.sites r) k ≡ Some e = ap (λ (p : ℕ). slice_get (histories_of pool.sites p) k) places ∙ also in
-      let there : slice_get first.site.history k ≡ Some e = ap (λ (es : List Entry). slice_get es k) (sym first.history) ∙ moved in
-      (places, site_once r order (lanes r) (link_at pool.proxy.links r) opening first.site j k d e h.proxy.numbered first_holds at_first there same);
+      let there : slice_get first.site.history k ≡ Some e = ap (λ (es : List Entry). slice_get es k) (sym first.history) ∙ moved in (
+        places,
+        site_once (home_of pool) r order (λ proxy. lanes proxy r) (λ proxy. link_of pool proxy r) opening first.site j k d e
+            (numbered_whole (home_of pool) order (λ proxy. (h.proxies proxy).numbered)) first_holds at_first there same,
+      );
 }

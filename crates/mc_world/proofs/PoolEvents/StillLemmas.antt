@@ -11,8 +11,9 @@ use Rattle.mc_proxy.specs.declared.session_turns.SessionTurn.TheVariants as turn
 use Rattle.mc_proxy.specs.ProxyState.{ProxyState, Sessions, session_in, updated}
 use Rattle.mc_proxy.specs.Turns.{Alone, Steps}
 use Rattle.mc_proxy.proofs.NotingLemmas.{same_proxy}
-use Rattle.mc_world.specs.WorldState.{PoolState, SiteState}
+use Rattle.mc_world.specs.WorldState.{SiteState, proxy_in, with_proxy}
 use Rattle.mc_world.proofs.PoolEvents.AppliesLemmas.{pool_of}
+use Rattle.mc_world.proofs.PoolEvents.ProxyLemmas.{set_same}
 
 -- a session that stays what it was
 updated-same : (number : ℕ) (s : SessionState) (sessions : Sessions) → session_in sessions number ≡ Some s → updated number s sessions ≡ sessions
@@ -42,5 +43,7 @@ pub emit_still : (number : ℕ) (emit : Emit) (old new : ProxyState) → emit �
 emit_still number emits.Done old new differ h = absurd (differ refl)
 emit_still number emits.Idle old new differ h = steps_still number old new (Alone (IsEmit emits.Idle)) h h.step.1.1 h.step.0
 
-pub same_pool : (sites : List SiteState) (new old : ProxyState) → new ≡ old → ◌≡◌ {A = PoolState} (record { proxy = new; sites = sites }) (record { proxy = old; sites = sites })
-same_pool sites new old same = ap (λ (p : ProxyState). pool_of p sites) same
+pub same_pool : (proxy : ℕ) (homes : List ℕ) (proxies proxies' : List ProxyState) (sites : List SiteState) (now : ProxyState) → proxies' ≡ with_proxy proxy now proxies
+    → now ≡ proxy_in proxies proxy → pool_of homes proxies' sites ≡ pool_of homes proxies sites
+same_pool proxy homes proxies proxies' sites now is same =
+    ap (λ (ps : List ProxyState). pool_of homes ps sites) (is ∙ ap (λ (p : ProxyState). with_proxy proxy p proxies) same ∙ set_same proxy proxies)

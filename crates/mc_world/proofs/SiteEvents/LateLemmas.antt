@@ -1,5 +1,5 @@
 -- A server and its ways hold after what happens on a lost generation: bytes arrive, the server takes a request, the server sees its end.
-use Rattle.std.proofs.Common.{◌≡◌, ◌≢◌, ◌∙◌, ℕ, zero, suc, ◌+◌, ◌<◌, ◌≤◌, ◌^◌, ◌⊎◌, inl, inr, true, List, [], ◌∷◌, ◌++◌, length, map, Some, None, slice_get, slice_set, refl, sym, ap, ap₂, subst, append_assoc, arith}
+use Rattle.std.proofs.Common.{◌≡◌, ◌≢◌, ◌∙◌, ℕ, zero, suc, ◌+◌, ◌<◌, ◌≤◌, ◌^◌, ◌⊎◌, inl, inr, true, List, [], ◌∷◌, ◌++◌, map, Some, None, slice_get, slice_set, refl, sym, ap, ap₂, subst, append_assoc, arith}
 use Rattle.std.specs.Prelude.{remove}
 use Rattle.std.specs.List.{list_all}
 use Rattle.std.proofs.lemmas.Bool.{and_parts}
@@ -28,14 +28,16 @@ use Rattle.mc_account.proofs.OrderLemmas.{passes_parts}
 use Rattle.mc_history.specs.Generations.{is_good}
 use Rattle.mc_history.specs.Made.{Each, Made, commands_on, entry_of, read_as, taking_of}
 use Rattle.mc_history.specs.declared.entries.Entry.{Entry}
+use Rattle.mc_world.specs.Homes.{Homes}
 use Rattle.mc_world.specs.Sites.{IsLiving, IsLostWay, SiteHolds, untaken_times}
-use Rattle.mc_world.specs.WorldState.{SiteState, StaleState}
+use Rattle.mc_world.specs.WorldState.{SiteState, StaleState, way_by}
 use Rattle.mc_history.proofs.OutcomeLemmas.{replied_push}
 use Rattle.mc_world.proofs.SiteEvents.CountLemmas.{untaken-set}
 use Rattle.mc_history.proofs.GenerationLemmas.{reads_others}
 use Rattle.mc_history.proofs.NamedLemmas.{each_push}
 use Rattle.mc_history.proofs.MadeLemmas.{cache_of, made_push, replayed_made}
-use Rattle.mc_world.proofs.SiteEvents.SiteLemmas.{appended, commands_push_other, commands_push_own, entry_by, get_none, is_made, lost_elsewhere, lost_untouched, made_of, next_is, one_more, other_is, same_end, still_good, taking_by}
+use Rattle.mc_world.proofs.SiteEvents.SiteLemmas.{appended, commands_push_other, commands_push_own, entry_by, get_none, is_made, living_moved, lost_elsewhere}
+use Rattle.mc_world.proofs.SiteEvents.SiteLemmas.{lost_untouched, made_of, next_is, one_more, other_is, same_end, still_good, taking_by}
 use Rattle.mc_history.specs.Named.{IsNamed, tags_made, times}
 
 -- what is in a list after one element is replaced
@@ -66,27 +68,21 @@ apart_set ways i way now same at apart j k v w at_v at_w differ = elim (get_set 
   ])
 ]
 
--- the living generation, if something happens on another connection
-living_elsewhere : (place : ℕ) (order : Order) (lane : Lane) (all all' made made' : List Made) (texts texts' sent : ℕ → List ℕ) (site : SiteState) (server : ServerState) (history : List Entry) (lost : List StaleState)
-    → texts' site.connection ≡ texts site.connection → commands_on site.connection made' ≡ commands_on site.connection made → connection_at server site.connection ≡ connection_at site.server site.connection
+-- the living generation of a proxy, if something happens on another connection
+living_elsewhere : (home : Homes) (proxy place : ℕ) (order : Order) (lane : Lane) (all all' made made' : List Made) (texts texts' sent : ℕ → List ℕ) (site : SiteState) (server : ServerState) (history : List Entry) (lost : List StaleState)
+    → texts' (way_by site proxy).connection ≡ texts (way_by site proxy).connection → commands_on (way_by site proxy).connection made' ≡ commands_on (way_by site proxy).connection made
+    → connection_at server (way_by site proxy).connection ≡ connection_at site.server (way_by site proxy).connection
     → ((t : Tag) → times t (tags_made all') + untaken_times t lost ≤ times t (tags_made all) + untaken_times t site.lost)
-    → IsLiving place order lane all made texts sent site → IsLiving place order lane all' made' texts' sent (record site { server = server; history = history; lost = lost })
-living_elsewhere place order lane all all' made made' texts texts' sent site server history lost text commands is fewer h = record {
-  end = h.end;
-  is_open = is ∙ h.is_open;
-  out = text ∙ h.out;
-  came = h.came;
-  others = h.others;
-  commands = h.commands ∙ ap (λ (cs : List Tagged). cs ++ h.others) (sym commands);
-  ahead = h.ahead ∙ ap (λ (cs : List Tagged). length cs) (sym commands);
-  once = λ t. omega (arith, h.once t, fewer t);
-}
+    → IsLiving home proxy place order lane all made texts sent site → IsLiving home proxy place order lane all' made' texts' sent (record site { server = server; history = history; lost = lost })
+living_elsewhere home proxy place order lane all all' made made' texts texts' sent site server history lost text commands is fewer h =
+    living_moved home proxy place order order lane lane all all' made made' texts texts' sent sent site (record site { server = server; history = history; lost = lost })
+    refl text refl commands is refl refl refl refl h (λ t. omega (arith, h.once t, fewer t))
 
 -- bytes of a lost generation arrive
-pub site_late_fed : (place : ℕ) (order : Order) (lane : Lane) (link : LinkState) (opening : CacheState) (site : SiteState) (server : ServerState) (i : ℕ) (way : StaleState) (piece rest : List ℕ)
-    → slice_get site.lost i ≡ Some way → way.going ≡ piece ++ rest → Steps way.connection site.server server (Feeds piece) → SiteHolds place order lane link opening site
-    → SiteHolds place order lane link opening (record site { server = server; lost = slice_set site.lost i (record way { going = rest }) })
-site_late_fed place order lane link opening site server i way piece rest at going steps h =
+pub site_late_fed : (home : Homes) (place : ℕ) (order : Order) (lanes : ℕ → Lane) (links : ℕ → LinkState) (opening : CacheState) (site : SiteState) (server : ServerState) (i : ℕ) (way : StaleState) (piece rest : List ℕ)
+    → slice_get site.lost i ≡ Some way → way.going ≡ piece ++ rest → Steps way.connection site.server server (Feeds piece) → SiteHolds home place order lanes links opening site
+    → SiteHolds home place order lanes links opening (record site { server = server; lost = slice_set site.lost i (record way { going = rest }) })
+site_late_fed home place order lanes links opening site server i way piece rest at going steps h =
     let own = h.lost i way at in
     let now_open : connection_at server way.connection ≡ Some steps.after =
     ap (λ (cs : List (ℕ × ConnectionState)). connection_at (record server { connections = cs }) way.connection) steps.is ∙ updated_own way.connection steps.before steps.after site.server.connections steps.was in
@@ -117,9 +113,9 @@ site_late_fed place order lane link opening site server i way piece rest at goin
       all_named = h.all_named;
       replied = h.replied;
       once = λ t. omega (arith, h.once t, fewer t);
-      living = λ up. let differ : way.connection ≢ site.connection = λ same. h.apart_living up i way at (sym same) in
-          living_elsewhere place order lane (h.past ++ h.made) (h.past ++ h.made) h.made h.made h.texts (grown way.connection piece h.texts) h.sent site server site.history (slice_set site.lost i (record way { going = rest }))
-          (grown-other way.connection site.connection piece h.texts differ) refl (other_is way.connection site.connection site.server server (Feeds piece) steps differ) fewer (h.living up);
+      living = λ q up. let differ : way.connection ≢ (way_by site q).connection = λ same. h.apart_living q up i way at (sym same) in
+          living_elsewhere home q place order (lanes q) (h.past ++ h.made) (h.past ++ h.made) h.made h.made h.texts (grown way.connection piece h.texts) h.sent site server site.history (slice_set site.lost i (record way { going = rest }))
+          (grown-other way.connection (way_by site q).connection piece h.texts differ) refl (other_is way.connection (way_by site q).connection site.server server (Feeds piece) steps differ) fewer (h.living q up);
       lost = λ j w at_w. elim (get_set site.lost i (record way { going = rest }) j w at_w) [
         | inl k ↦ subst (λ (x : StaleState). IsLostWay place order h.made (grown way.connection piece h.texts) server x) (sym k.1) now
         | inr k ↦ (let differ = h.apart i j way w at k.1 (λ same. k.0 (sym same)) in
@@ -127,24 +123,25 @@ site_late_fed place order lane link opening site server i way piece rest at goin
             (other_is way.connection w.connection site.server server (Feeds piece) steps differ) (h.lost j w k.1))
       ];
       apart = λ j k v w at_v at_w differ. apart_set site.lost i way (record way { going = rest }) refl at h.apart j k v w at_v at_w differ;
-      apart_living = λ up j w at_w. elim (get_set site.lost i (record way { going = rest }) j w at_w) [
-        | inl k ↦ (λ same. h.apart_living up i way at (same ∙ ap (λ (x : StaleState). x.connection) k.1))
-        | inr k ↦ h.apart_living up j w k.1
+      apart_living = λ q up j w at_w. elim (get_set site.lost i (record way { going = rest }) j w at_w) [
+        | inl k ↦ (λ same. h.apart_living q up i way at (same ∙ ap (λ (x : StaleState). x.connection) k.1))
+        | inr k ↦ h.apart_living q up j w k.1
       ];
+      apart_ways = h.apart_ways;
     }
 
 -- a server takes a request of a lost generation: its tag was kept
-pub site_late_turned : (place : ℕ) (order : Order) (lane : Lane) (link : LinkState) (opening : CacheState) (site : SiteState) (server : ServerState) (moment : ℕ) (i : ℕ) (way : StaleState) (tag : Tag) (tags : List Tag) (reply : List ℕ)
+pub site_late_turned : (home : Homes) (place : ℕ) (order : Order) (lanes : ℕ → Lane) (links : ℕ → LinkState) (opening : CacheState) (site : SiteState) (server : ServerState)
+    (moment : ℕ) (i : ℕ) (way : StaleState) (tag : Tag) (tags : List Tag) (reply : List ℕ)
     → slice_get site.lost i ≡ Some way → way.untaken ≡ tag ∷ tags → (steps : Steps way.connection site.server server (IsTurn way.connection moment Took))
-    → steps.after.output ≡ steps.before.output ++ reply → moment < 2 ^ 63 → SiteHolds place order lane link opening site
-    → SiteHolds place order lane link opening (record site {
+    → steps.after.output ≡ steps.before.output ++ reply → moment < 2 ^ 63 → SiteHolds home place order lanes links opening site
+    → SiteHolds home place order lanes links opening (record site {
       server = server;
       history = site.history ++ (record { client = tag.session; request = tag.request; atom = tag.atom; moment = moment; refused = steps.step.1.served.0; reply = reply }) ∷ [];
       lost = slice_set site.lost i (record way { untaken = tags });
     })
-site_late_turned place order lane link opening site server moment i way tag tags reply at named steps more below h =
+site_late_turned home place order lanes links opening site server moment i way tag tags reply at named steps more below h =
     let own = h.lost i way at in
-    let there : SiteState = record site { connection = way.connection } in
     let same = same_end own.end steps.before (connection_at site.server way.connection) own.is_open steps.was in
     let reads = reads_others opening way.connection (h.texts way.connection) way.going (h.sent way.connection) h.made own.end own.others
     (stood opening h.texts h.sent (map taking_of h.made) site.server way.connection own.end h.server own.is_open) own.put own.good [] in
@@ -156,11 +153,11 @@ site_late_turned place order lane link opening site server moment i way tag tags
     ap (λ (cs : List Tagged). list_all is_good (commands_on way.connection h.made ++ cs)) (sym next.is) ∙ own.good in
     let good = (and_parts (is_good next.command) (list_all is_good next.past) (passes_parts is_good (commands_on way.connection h.made) (next.command ∷ next.past) good_all).1).0 in
     let next_named : Each (IsNamed place order) (next.command ∷ next.past) = subst (λ (cs : List Tagged). Each (IsNamed place order) cs) next.is own.named in
-    let m : Made = made_of there h.made opening next.command moment steps.step.1.served.0 in
+    let m : Made = made_of way.connection h.made opening next.command moment steps.step.1.served.0 in
     let can_here = subst (λ (s : CacheState). can_have next.command.0 (step_of s next.command.0 moment steps.step.1.served.0).1 ≡ true) cache_is
     (answers_as_it_can site.server.cache h.good_cache next.command.0 good moment below steps.step.1.served.0) in
-    let made = is_made there server moment opening h.made next.command steps next.what_is cache_is good can_here in
-    let reply_is = appended there server moment opening h.made next.command reply steps next.what_is cache_is made more in
+    let made = is_made way.connection site.server server moment opening h.made next.command steps next.what_is cache_is good can_here in
+    let reply_is = appended way.connection site.server server moment opening h.made next.command reply steps next.what_is cache_is made more in
     let kept : tag ∷ tags ≡ next.command.1 ∷ map (λ (c : Tagged). c.1) next.past = sym named ∙ own.untaken ∙ ap (λ (cs : List Tagged). map (λ (c : Tagged). c.1) cs) next.is in
     let tag_is : tag ≡ next.command.1 = cc in
     let tags_are : tags ≡ map (λ (c : Tagged). c.1) next.past = cc in
@@ -204,19 +201,21 @@ site_late_turned place order lane link opening site server moment i way tag tags
       all_named = h.all_named;
       replied = replied_push place order site.history (entry_by tag moment steps.step.1.served.0 reply) h.replied;
       once = λ t. omega (arith, h.once t, fewer t);
-      living = λ up. let differ : way.connection ≢ site.connection = λ is. h.apart_living up i way at (sym is) in
-          living_elsewhere place order lane (h.past ++ h.made) (h.past ++ (h.made ++ m ∷ [])) h.made (h.made ++ m ∷ []) h.texts h.texts h.sent site server (site.history ++ entry_by tag moment steps.step.1.served.0 reply ∷ []) (slice_set site.lost i (record way { untaken = tags }))
-          refl (commands_push_other site.connection h.made m differ) (other_is way.connection site.connection site.server server (IsTurn way.connection moment Took) steps differ) fewer (h.living up);
+      living = λ q up. let differ : way.connection ≢ (way_by site q).connection = λ is. h.apart_living q up i way at (sym is) in
+          living_elsewhere home q place order (lanes q) (h.past ++ h.made) (h.past ++ (h.made ++ m ∷ [])) h.made (h.made ++ m ∷ [])
+          h.texts h.texts h.sent site server (site.history ++ entry_by tag moment steps.step.1.served.0 reply ∷ []) (slice_set site.lost i (record way { untaken = tags }))
+          refl (commands_push_other (way_by site q).connection h.made m differ) (other_is way.connection (way_by site q).connection site.server server (IsTurn way.connection moment Took) steps differ) fewer (h.living q up);
       lost = λ j w at_w. elim (get_set site.lost i (record way { untaken = tags }) j w at_w) [
         | inl k ↦ subst (λ (x : StaleState). IsLostWay place order (h.made ++ m ∷ []) h.texts server x) (sym k.1) now
         | inr k ↦ (let differ = h.apart i j way w at k.1 (λ is. k.0 (sym is)) in
             lost_untouched place order h.made m h.texts site.server server w differ (other_is way.connection w.connection site.server server (IsTurn way.connection moment Took) steps differ) (h.lost j w k.1))
       ];
       apart = λ j k v w at_v at_w differ. apart_set site.lost i way (record way { untaken = tags }) refl at h.apart j k v w at_v at_w differ;
-      apart_living = λ up j w at_w. elim (get_set site.lost i (record way { untaken = tags }) j w at_w) [
-        | inl k ↦ (λ is. h.apart_living up i way at (is ∙ ap (λ (x : StaleState). x.connection) k.1))
-        | inr k ↦ h.apart_living up j w k.1
+      apart_living = λ q up j w at_w. elim (get_set site.lost i (record way { untaken = tags }) j w at_w) [
+        | inl k ↦ (λ is. h.apart_living q up i way at (is ∙ ap (λ (x : StaleState). x.connection) k.1))
+        | inr k ↦ h.apart_living q up j w k.1
       ];
+      apart_ways = h.apart_ways;
     }
 
 -- what is in a list after one element is removed
@@ -264,10 +263,10 @@ untaken-removed tag (w ∷ ws) zero = omega arith
 untaken-removed tag (w ∷ ws) (suc i) = omega (arith, untaken-removed tag ws i)
 
 -- a server sees the end of a lost generation
-pub site_ended : (place : ℕ) (order : Order) (lane : Lane) (link : LinkState) (opening : CacheState) (site : SiteState) (server : ServerState) (i : ℕ) (way : StaleState)
+pub site_ended : (home : Homes) (place : ℕ) (order : Order) (lanes : ℕ → Lane) (links : ℕ → LinkState) (opening : CacheState) (site : SiteState) (server : ServerState) (i : ℕ) (way : StaleState)
     → slice_get site.lost i ≡ Some way → server ≡ record site.server { connections = closed way.connection site.server.connections } → connection_at server way.connection ≡ None
-    → SiteHolds place order lane link opening site → SiteHolds place order lane link opening (record site { server = server; lost = remove site.lost i })
-site_ended place order lane link opening site server i way at closes not_open h =
+    → SiteHolds home place order lanes links opening site → SiteHolds home place order lanes links opening (record site { server = server; lost = remove site.lost i })
+site_ended home place order lanes links opening site server i way at closes not_open h =
     let still : (number : ℕ) → way.connection ≢ number → connection_at server number ≡ connection_at site.server number =
     λ number differ. ap (λ (s : ServerState). connection_at s number) closes ∙ closed_other way.connection number site.server.connections differ in
     let fewer : (t : Tag) → times t (tags_made (h.past ++ h.made)) + untaken_times t (remove site.lost i) ≤ times t (tags_made (h.past ++ h.made)) + untaken_times t site.lost =
@@ -288,11 +287,13 @@ site_ended place order lane link opening site server i way at closes not_open h 
       all_named = h.all_named;
       replied = h.replied;
       once = λ t. omega (arith, h.once t, fewer t);
-      living = λ up. let differ : way.connection ≢ site.connection = λ is. h.apart_living up i way at (sym is) in
-          living_elsewhere place order lane (h.past ++ h.made) (h.past ++ h.made) h.made h.made h.texts h.texts h.sent site server site.history (remove site.lost i) refl refl (still site.connection differ) fewer (h.living up);
+      living = λ q up. let differ : way.connection ≢ (way_by site q).connection = λ is. h.apart_living q up i way at (sym is) in
+          living_elsewhere home q place order (lanes q) (h.past ++ h.made) (h.past ++ h.made) h.made h.made h.texts h.texts h.sent site server site.history (remove site.lost i)
+          refl refl (still (way_by site q).connection differ) fewer (h.living q up);
       lost = λ j w at_w.
           let differ = h.apart i (shift i j) way w at (was j w at_w) (shift_past i j) in
           lost_elsewhere place order h.made h.texts h.texts site.server server w refl (still w.connection differ) (h.lost (shift i j) w (was j w at_w));
       apart = λ j k v w at_v at_w differ. h.apart (shift i j) (shift i k) v w (was j v at_v) (was k w at_w) (shift_apart i j k differ);
-      apart_living = λ up j w at_w. h.apart_living up (shift i j) w (was j w at_w);
+      apart_living = λ q up j w at_w. h.apart_living q up (shift i j) w (was j w at_w);
+      apart_ways = h.apart_ways;
     }

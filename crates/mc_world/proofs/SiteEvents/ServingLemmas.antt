@@ -19,7 +19,6 @@ use Rattle.mc_cache_laws.specs.GoodCaches.{IsGoodCache}
 use Rattle.mc_server.specs.ServerState.{ConnectionState, ServerState, connection_at}
 use Rattle.mc_server.specs.Turns.{waiting_of}
 use Rattle.mc_server.proofs.HoldsLemmas.{stood}
-use Rattle.mc_proxy.specs.SessionState.{link_at}
 use Rattle.mc_account.specs.Lanes.{Lane, LaneHolds, LinkHolds, as_waiting, replies_text, sent_on}
 use Rattle.mc_account.specs.Orders.{Order, Tagged}
 use Rattle.mc_account.proofs.OrderLemmas.{passes_parts}
@@ -27,9 +26,10 @@ use Rattle.mc_history.specs.Generations.{is_good}
 use Rattle.mc_history.specs.Made.{Made, commands_on, made_on, read_as, replies_on, taking_of}
 use Rattle.mc_history.proofs.GenerationLemmas.{carried, not_nothing, reads_others}
 use Rattle.mc_world.specs.CourseHolds.{CourseHolds}
+use Rattle.mc_world.specs.Homes.{Homes, of_proxy}
 use Rattle.mc_world.specs.Serving.{PoolServes, ServesProxy, SiteServes}
 use Rattle.mc_world.specs.Sites.{SiteHolds}
-use Rattle.mc_world.specs.WorldState.{SiteState, StaleState}
+use Rattle.mc_world.specs.WorldState.{SiteState, StaleState, WayState, home_of, link_of, way_by}
 use Rattle.mc_world.specs.Worlds.{CourseState}
 use Rattle.mc_world.proofs.SiteEvents.SiteLemmas.{joined, next_is}
 
@@ -98,44 +98,48 @@ some_later [] [] link after tag reply past takes good waits is =
 some_later (c ∷ cs) [] link after tag reply past takes good waits is =
     grind (arith, append_assoc, and_parts, atom_begins, not_nothing, front_none, same_head)
 
--- what holds of the living generation
-record LivingServes (link : LinkState) (site : SiteState) : Type 0 where
-  pub serves : ServesProxy site.connection site.server
-  pub waits : 0 < length (waiting_of (connection_at site.server site.connection)) → site.ahead < length link.waiting
+-- what holds of a proxy's living generation
+record LivingServes (link : LinkState) (way : WayState) (server : ServerState) : Type 0 where
+  pub serves : ServesProxy way.connection server
+  pub waits : 0 < length (waiting_of (connection_at server way.connection)) → way.ahead < length link.waiting
   pub never_strange : HasStrange link.waiting link.unread → ⊥
-  pub replied : (tag : Tag) (reply : AReply (List ℕ)) (after : LinkState) → Takes link tag reply after → 1 ≤ site.ahead
+  pub replied : (tag : Tag) (reply : AReply (List ℕ)) (after : LinkState) → Takes link tag reply after → 1 ≤ way.ahead
 
-living_serves : (place : ℕ) (order : Order) (lane : Lane) (link : LinkState) (opening : CacheState) (site : SiteState) → link.up ≡ true
-    → SiteHolds place order lane link opening site → LaneHolds place order lane link → LivingServes link site
-living_serves place order lane link opening site up h holds =
-    let living = h.living up in
-    let is_joined = joined place order lane link opening site up h holds in
-    let carries = carried place order lane link opening h.made site.connection living.end living.others is_joined in
-    let parts = passes_parts is_good (commands_on site.connection h.made) living.others (ap (λ (cs : List Tagged). list_all is_good cs) (sym living.commands) ∙ is_joined.good) in
-    let sizes : length (sent_on place order lane) ≡ length (commands_on site.connection h.made ++ living.others) = ap (λ (cs : List Tagged). length cs) living.commands in
-    let waiting : length link.waiting ≡ length (drop (length lane.replies) (sent_on place order lane)) =
-    ap (λ (ws : List Waiting). length ws) holds.waiting ∙ length-map (drop (length lane.replies) (sent_on place order lane)) (λ (c : Tagged). (head_of c.0, c.1)) in
-    let given : length (replies_on site.connection h.made) ≡ length lane.replies + length carries.front.later =
+living_serves : (home : Homes) (proxy place : ℕ) (order : Order) (lanes : ℕ → Lane) (links : ℕ → LinkState) (opening : CacheState) (site : SiteState) → (links proxy).up ≡ true
+    → SiteHolds home place order lanes links opening site → LaneHolds place (of_proxy home proxy order) (lanes proxy) (links proxy) → LivingServes (links proxy) (way_by site proxy) site.server
+living_serves home proxy place order lanes links opening site up h holds =
+    let living = h.living proxy up in
+    let own : Order = of_proxy home proxy order in
+    let lane : Lane = lanes proxy in
+    let link : LinkState = links proxy in
+    let c : ℕ = (way_by site proxy).connection in
+    let is_joined = joined home proxy place order lanes links opening site up h holds in
+    let carries = carried place own lane link opening h.made c living.end living.others is_joined in
+    let parts = passes_parts is_good (commands_on c h.made) living.others (ap (λ (cs : List Tagged). list_all is_good cs) (sym living.commands) ∙ is_joined.good) in
+    let sizes : length (sent_on place own lane) ≡ length (commands_on c h.made ++ living.others) = ap (λ (cs : List Tagged). length cs) living.commands in
+    let waiting : length link.waiting ≡ length (drop (length lane.replies) (sent_on place own lane)) =
+    ap (λ (ws : List Waiting). length ws) holds.waiting ∙ length-map (drop (length lane.replies) (sent_on place own lane)) (λ (x : Tagged). (head_of x.0, x.1)) in
+    let given : length (replies_on c h.made) ≡ length lane.replies + length carries.front.later =
     ap (λ (rs : List (AReply (List ℕ))). length rs) carries.front.all_is ∙ length-append lane.replies carries.front.later in
-    let both : length (replies_on site.connection h.made) ≡ length (commands_on site.connection h.made) =
-    length-map (made_on site.connection h.made) (λ (m : Made). m.reply) ∙ sym (length-map (made_on site.connection h.made) (λ (m : Made). m.command)) in
+    let both : length (replies_on c h.made) ≡ length (commands_on c h.made) =
+    length-map (made_on c h.made) (λ (m : Made). m.reply) ∙ sym (length-map (made_on c h.made) (λ (m : Made). m.command)) in
     record {
-      serves = serves_on site.server site.connection living.end link.output living.others living.is_open carries.reads parts.1 h.good_cache;
+      serves = serves_on site.server c living.end link.output living.others living.is_open carries.reads parts.1 h.good_cache;
       waits = λ some.
-          let more = some_waits site.server site.connection living.end link.output living.others living.is_open carries.reads some in
+          let more = some_waits site.server c living.end link.output living.others living.is_open carries.reads some in
           omega (
             arith,
             more,
             waiting,
             sizes,
             living.ahead,
-            length-append (commands_on site.connection h.made) living.others,
-            length-drop (length lane.replies) (sent_on place order lane),
+            length-append (commands_on c h.made) living.others,
+            length-drop (length lane.replies) (sent_on place own lane),
           );
       never_strange = carries.never_strange;
       replied = λ tag reply after takes.
-          let more = some_later (drop (length lane.replies) (sent_on place order lane)) carries.front.later link after tag reply living.end.output takes
-          (good_later (length lane.replies) (sent_on place order lane) is_joined.good) holds.waiting carries.front.bytes_are in
+          let more = some_later (drop (length lane.replies) (sent_on place own lane)) carries.front.later link after tag reply living.end.output takes
+          (good_later (length lane.replies) (sent_on place own lane) is_joined.good) holds.waiting carries.front.bytes_are in
           omega (arith, more, given, both, living.ahead);
     }
 
@@ -144,9 +148,9 @@ record LostServes (site : SiteState) (way : StaleState) : Type 0 where
   pub serves : ServesProxy way.connection site.server
   pub untaken : 0 < length (waiting_of (connection_at site.server way.connection)) → 0 < length way.untaken
 
-lost_serves : (place : ℕ) (order : Order) (lane : Lane) (link : LinkState) (opening : CacheState) (site : SiteState) (i : ℕ) (way : StaleState) → slice_get site.lost i ≡ Some way
-    → SiteHolds place order lane link opening site → LostServes site way
-lost_serves place order lane link opening site i way at h =
+lost_serves : (home : Homes) (place : ℕ) (order : Order) (lanes : ℕ → Lane) (links : ℕ → LinkState) (opening : CacheState) (site : SiteState) (i : ℕ) (way : StaleState) → slice_get site.lost i ≡ Some way
+    → SiteHolds home place order lanes links opening site → LostServes site way
+lost_serves home place order lanes links opening site i way at h =
     let own = h.lost i way at in
     let reads = reads_others opening way.connection (h.texts way.connection) way.going (h.sent way.connection) h.made own.end own.others
     (stood opening h.texts h.sent (map taking_of h.made) site.server way.connection own.end h.server own.is_open) own.put own.good in
@@ -160,22 +164,29 @@ lost_serves place order lane link opening site i way at h =
     }
 
 -- a site serves, if it holds
-pub site_serves : (place : ℕ) (order : Order) (lane : Lane) (link : LinkState) (opening : CacheState) (site : SiteState) → site.generation ≡ link.generation
-    → SiteHolds place order lane link opening site → LinkHolds place order lane link → SiteServes link site
-site_serves place order lane link opening site generation h holds = record {
-  generation = generation;
-  living = λ up. (living_serves place order lane link opening site up h (holds.0 up)).serves;
-  waits = λ up. (living_serves place order lane link opening site up h (holds.0 up)).waits;
-  never_strange = λ up. (living_serves place order lane link opening site up h (holds.0 up)).never_strange;
-  replied = λ tag reply after up. (living_serves place order lane link opening site up h (holds.0 up)).replied tag reply after;
-  lost = λ i way at. (lost_serves place order lane link opening site i way at h).serves;
-  untaken = λ i way at. (lost_serves place order lane link opening site i way at h).untaken;
-}
+pub site_serves : (home : Homes) (place : ℕ) (order : Order) (lanes : ℕ → Lane) (links : ℕ → LinkState) (opening : CacheState) (site : SiteState)
+    → ((proxy : ℕ) → (way_by site proxy).generation ≡ (links proxy).generation)
+    → SiteHolds home place order lanes links opening site → ((proxy : ℕ) → LinkHolds place (of_proxy home proxy order) (lanes proxy) (links proxy)) → SiteServes links site
+site_serves home place order lanes links opening site generation h holds =
+    let serves : (proxy : ℕ) → (links proxy).up ≡ true → LivingServes (links proxy) (way_by site proxy) site.server =
+    λ proxy up. living_serves home proxy place order lanes links opening site up h ((holds proxy).0 up) in
+    record {
+      ways = λ proxy. record {
+        generation = generation proxy;
+        living = λ up. (serves proxy up).serves;
+        waits = λ up. (serves proxy up).waits;
+        never_strange = λ up. (serves proxy up).never_strange;
+        replied = λ tag reply after up. (serves proxy up).replied tag reply after;
+      };
+      lost = λ i way at. (lost_serves home place order lanes links opening site i way at h).serves;
+      untaken = λ i way at. (lost_serves home place order lanes links opening site i way at h).untaken;
+    }
 
 -- the pool of a course that holds serves
 pub pool_serves : (ring : RingState) (opening : CacheState) (c : CourseState) → CourseHolds ring opening c → PoolServes c.pool
 pool_serves ring opening c h = record {
-  sited = h.log.servers.sited ∙ sym h.log.servers.linked;
-  sites = λ place site at. site_serves place h.order (h.lanes place) (link_at c.pool.proxy.links place) opening site (h.generations place site at).same
-      (h.pool.sites place site at) (h.pool.proxy.links place);
+  sited = h.log.servers.sited;
+  ways = h.log.servers.ways;
+  sites = λ place site at. site_serves (home_of c.pool) place h.order (λ (proxy : ℕ). h.lanes proxy place) (λ (proxy : ℕ). link_of c.pool proxy place) opening site
+      (λ proxy. ((h.generations place site at).each proxy).same) (h.pool.sites place site at) (λ proxy. (h.pool.proxies proxy).links place);
 }

@@ -20,7 +20,7 @@ use Rattle.mc_history.specs.declared.entries.Entry.{Entry}
 use Rattle.mc_history.proofs.RefusalLemmas.{line_of_told, told_by_line}
 use Rattle.mc_world.specs.Happens.{Enters, EntersLate, EntersOn, entry_of_tag}
 use Rattle.mc_world.specs.Serving.{IsSpelled, ServesProxy}
-use Rattle.mc_world.specs.WorldState.{SiteState, StaleState}
+use Rattle.mc_world.specs.WorldState.{SiteState, StaleState, way_by, with_way}
 use Rattle.mc_world.proofs.SiteEvents.SiteLemmas.{same_end, taking_by}
 
 -- the output of the connection before a step, and after it
@@ -85,15 +85,21 @@ entered number moment tag old new history reply refused below serves steps reply
       history = ap (λ (v : Bool). history ++ entry_of_tag tag moment v reply ∷ []) (refused_is ∙ line);
     }
 
--- a turn of the living generation
-pub entered_at : (moment : ℕ) (tag : Tag) (old : SiteState) (server : ServerState) (history : List Entry) → EntersOn old.connection moment tag old.server server old.history history
-    → Enters moment tag old (record old { server = server; history = history; ahead = old.ahead + 1 })
-entered_at moment tag old server history h = record { on = h; all_else = refl }
+-- a turn of a proxy's living generation
+pub entered_at : (proxy moment : ℕ) (tag : Tag) (old : SiteState) (server : ServerState) (history : List Entry) → EntersOn (way_by old proxy).connection moment tag old.server server old.history history
+    → Enters proxy moment tag old
+    (record old { server = server; history = history; ways = with_way proxy (record (way_by old proxy) { ahead = (way_by old proxy).ahead + 1 }) old.ways })
+entered_at proxy moment tag old server history h = record { on = h; all_else = refl }
 
--- a turn of the living generation, with its entry
-pub entered_site : (moment : ℕ) (tag : Tag) (old new : SiteState) → (e : Enters moment tag old new)
-    → new ≡ record old { server = new.server; history = old.history ++ entry_of_tag tag moment e.on.steps.step.1.served.0 e.on.reply ∷ []; ahead = old.ahead + 1 }
-entered_site moment tag old new e = e.all_else ∙ ap (λ (es : List Entry). record old { server = new.server; history = es; ahead = old.ahead + 1 }) e.on.history
+-- a turn of a proxy's living generation, with its entry
+pub entered_site : (proxy moment : ℕ) (tag : Tag) (old new : SiteState) → (e : Enters proxy moment tag old new) → new ≡ record old {
+  server = new.server;
+  history = old.history ++ entry_of_tag tag moment e.on.steps.step.1.served.0 e.on.reply ∷ [];
+  ways = with_way proxy (record (way_by old proxy) { ahead = (way_by old proxy).ahead + 1 }) old.ways;
+}
+entered_site proxy moment tag old new e =
+    e.all_else
+    ∙ ap (λ (es : List Entry). record old { server = new.server; history = es; ways = with_way proxy (record (way_by old proxy) { ahead = (way_by old proxy).ahead + 1 }) old.ways }) e.on.history
 
 -- a turn of a lost generation
 first_of : (tags : List Tag) (tag : Tag) → slice_get tags 0 ≡ Some tag → tags ≡ tag ∷ drop 1 tags

@@ -2,7 +2,7 @@ use Rattle.mc_pool_laws.proofs.SentLemmas.{puts_taken}
 use Rattle.mc_pool_laws.proofs.answers.answers_follow_requests.Goals as goal
 
 pub returns-clause-few : goal.returns-clause-few
-returns-clause-few c losses ring opening texts outs histories log account = puts_taken losses ring opening account.0 texts outs histories log account.1
+returns-clause-few c home losses ring opening texts outs histories log account = puts_taken home losses ring opening account.0 texts outs histories log account.1
 
 pub returns-clause-each : goal.returns-clause-each
-returns-clause-each c losses ring opening texts outs histories log account = account.1.after
+returns-clause-each c home losses ring opening texts outs histories log account = account.1.after

@@ -1,4 +1,4 @@
 use Rattle.mc_pool_laws.proofs.histories.commands_are_executed_once.Goals as goal
 
 pub returns : goal.returns
-returns c losses ring opening texts outs histories log account = account.1.once
+returns c home losses ring opening texts outs histories log account = account.1.once

@@ -6,7 +6,7 @@ use Rattle.mc_world.proofs.Log.LogLemmas.{moments-count}
 use Rattle.mc_pool_laws.proofs.refusals.no_entry_without_a_turn.Goals as goal
 
 pub returns : goal.returns
-returns c losses ring opening texts outs histories log place k e at none account =
+returns c home losses ring opening texts outs histories log place k e at none account =
     let inside = got_inside (histories place) k e at in
     let size = length-map (histories place) (λ (d : Entry). d.moment) in
     let turns = ap (λ ms. length ms) (account.1.moments place) ∙ moments-count place log in

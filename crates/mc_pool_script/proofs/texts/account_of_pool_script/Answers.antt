@@ -1,6 +1,7 @@
 use Rattle.std.proofs.Common.{◌≡◌, ◌∙◌, ℕ, List, ◌++◌, ap}
 use Rattle.mc_script.specs.Escapes.{client_lines}
 use Rattle.mc_pool_script.specs.Plays.{outs_of}
+use Rattle.mc_pool_script.specs.PoolScripts.{clients_of}
 use Rattle.mc_pool_script.specs.Printed.{account_lines}
 use Rattle.mc_pool_script.proofs.texts.account_of_pool_script.Goals as goal
 
@@ -10,7 +11,7 @@ returns-clause-text g c =
     let played = c.in_ok-played.played in
     let steps = played.steps.items in
     let course = played.world.course in
-    let clients = c.clients-clients.result in
+    let clients = c.all_clients-clients.result in
     let servers = c.server_count-servers.result in
     let outputs : c.push_output_lines.new.out.items ≡ client_lines (outs_of clients course) =
     c.in_ok-push_output_lines.ensures.lines ∙ ap (λ (xs : List ℕ). xs ++ client_lines (outs_of clients course)) c.new-text.ensures.items in
@@ -18,6 +19,6 @@ returns-clause-text g c =
       script = script;
       play = record { read = c.in_ok-script.ensures.script; steps = steps; world = played.world; played = c.in_ok-played.ensures.played };
       printed = c.in_ok-push_account.ensures ∙ ap (λ (xs : List ℕ). xs ++ account_lines steps clients servers course) outputs
-          ∙ ap (λ (n : ℕ). client_lines (outs_of n course) ++ account_lines steps n servers course) c.clients-clients.ensures.clients
-          ∙ ap (λ (n : ℕ). client_lines (outs_of script.clients course) ++ account_lines steps script.clients n course) c.server_count-servers.ensures;
+          ∙ ap (λ (n : ℕ). client_lines (outs_of n course) ++ account_lines steps n servers course) c.all_clients-clients.ensures.clients
+          ∙ ap (λ (n : ℕ). client_lines (outs_of (clients_of script) course) ++ account_lines steps (clients_of script) n course) c.server_count-servers.ensures;
     }

@@ -10,6 +10,6 @@ returns-clause-text g c =
     record {
       script = c.in_ok-script.script;
       play = record { read = c.in_ok-script.ensures.script; steps = played.steps.items; world = played.world; played = c.in_ok-played.ensures.played };
-      printed = c.in_ok-push_output_lines.ensures.lines ∙ ap (λ (xs : List ℕ). xs ++ client_lines (outs_of c.clients.result course)) c.new-text.ensures.items
-          ∙ ap (λ (n : ℕ). client_lines (outs_of n course)) c.clients.ensures.clients;
+      printed = c.in_ok-push_output_lines.ensures.lines ∙ ap (λ (xs : List ℕ). xs ++ client_lines (outs_of c.all_clients.result course)) c.new-text.ensures.items
+          ∙ ap (λ (n : ℕ). client_lines (outs_of n course)) c.all_clients.ensures.clients;
     }

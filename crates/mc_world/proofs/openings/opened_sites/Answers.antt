@@ -40,9 +40,9 @@ loop-store-preserved g c =
     record {
       opened = c.in_ok-push.ensures.items
           ∙ ap (λ (s : SiteState). c.loop-store.sites.items ++ s ∷ []) c.in_ok-opened_site.ensures.opened
-          ∙ ap (λ (ss : List SiteState). ss ++ first_site (opening_cache c.args.budget c.args.items 0) ∷ []) c.loop-store.invariant.opened
-          ∙ replicate_more (length c.loop-store.yielded) (first_site (opening_cache c.args.budget c.args.items 0))
-          ∙ ap (λ (n : ℕ). replicate n (first_site (opening_cache c.args.budget c.args.items 0))) (sym more);
+          ∙ ap (λ (ss : List SiteState). ss ++ first_site (opening_cache c.args.budget c.args.items 0) c.args.proxies ∷ []) c.loop-store.invariant.opened
+          ∙ replicate_more (length c.loop-store.yielded) (first_site (opening_cache c.args.budget c.args.items 0) c.args.proxies)
+          ∙ ap (λ (n : ℕ). replicate n (first_site (opening_cache c.args.budget c.args.items 0) c.args.proxies)) (sym more);
       left = omega (arith, before, more, left);
       empty = All-tail (λ store. g.S.Store.items store ≡ []) c.in-Some.store c.next.new.self.rest.items
           (subst (λ (xs : List g.row.S.Denot). All (λ store. g.S.Store.items store ≡ []) xs) steps c.loop-store.invariant.empty);

@@ -29,7 +29,7 @@ returns-in-LinkBack-clause-applies g c = rw (c.in-LinkBack.is) (rw (← c.self-i
 pub returns-in-ServerSeesEnd-clause-happens : goal.returns-in-ServerSeesEnd-clause-happens
 returns-in-ServerSeesEnd-clause-happens g c =
     rw (c.in-ServerSeesEnd.is) (rw (← c.self-in-ServerSeesEnd.view_is) (done_as c.see_end.result _ _ _ _
-    (λ h. happened (ServerSeesEnd c.in-ServerSeesEnd.server c.in-ServerSeesEnd.generation) c.self-in-ServerSeesEnd.inside.clients.items
+    (λ h. happened (ServerSeesEnd c.in-ServerSeesEnd.proxy c.in-ServerSeesEnd.server c.in-ServerSeesEnd.generation) c.self-in-ServerSeesEnd.inside.clients.items
     c.self-in-ServerSeesEnd.inside.log.items c.self-in-ServerSeesEnd.inside.pool c.see_end.new.self refl h)
     (λ same. rested c.self-in-ServerSeesEnd.inside.clients.items c.self-in-ServerSeesEnd.inside.log.items c.self-in-ServerSeesEnd.inside.pool c.see_end.new.self same)
     c.see_end.ensures.ends))

@@ -11,8 +11,8 @@ pub returns-in_default : goal.returns-in_default
 returns-in_default g c =
     let none : slice_get c.self.inside.sites.items c.args.place ≡ None =
     ap (λ (ss : List SiteState). slice_get ss c.args.place) (sym c.deref.ensures.value) ∙ slice_get_past c.deref.result.now c.args.place c.in_default.ensures.lookup.3 in
-    let pool = pool_of c.self.inside.proxy c.self.inside.sites.items in
-    rw (← c.self.view_is) (never _ (by_nowhere c.args.place c.args.generation pool _ _ none (λ (late : CanServeLate c.args.place c.args.generation pool). late.there)))
+    let pool = pool_of c.self.inside.homes.items c.self.inside.proxies c.self.inside.sites.items in
+    rw (← c.self.view_is) (never _ (by_nowhere c.args.proxy c.args.place c.args.generation pool _ _ none (λ (late : CanServeLate c.args.proxy c.args.place c.args.generation pool). late.there)))
 
 -- the generation lives
 pub returns-then-lives : goal.returns-then-lives
@@ -20,26 +20,27 @@ returns-then-lives g c =
     let at : slice_get c.self.inside.sites.items c.args.place ≡ Some c.in-Some.site.now =
     ap (λ (ss : List SiteState). slice_get ss c.args.place) (sym c.deref.ensures.value)
     ∙ slice_get_read c.deref.result.now _ c.args.place c.in-Some.site.now refl c.in-Some.ensures.lookup.3.0 c.in-Some.ensures.lookup.1 in
-    let pool = pool_of c.self.inside.proxy c.self.inside.sites.items in
-    let lives : Lives c.args.place c.args.generation pool = rw (← c.self.view_is) at (c.lives.ensures.0 c.if-lives.true) in
-    rw (← c.self.view_is) (by_living c.args.place c.args.generation pool _ _ c.has_request.result lives (serves_living c.args.place pool c.in-Some.site.now at lives.up c.has_request.result (search rules)))
+    let pool = pool_of c.self.inside.homes.items c.self.inside.proxies c.self.inside.sites.items in
+    let lives : Lives c.args.proxy c.args.place c.args.generation pool = rw (← c.self.view_is) at (c.lives.ensures.0 c.if-lives.true) in
+    rw (← c.self.view_is) (by_living c.args.proxy c.args.place c.args.generation pool _ _ c.has_request.result lives (serves_living c.args.proxy c.args.place pool c.in-Some.site.now at lives.up c.has_request.result (search rules)))
 
 -- it was lost, and its server has not seen the end
-pub returns-in-Some-way : goal.returns-in-Some-way
-returns-in-Some-way g c =
+pub returns-in-Some-lost_way : goal.returns-in-Some-lost_way
+returns-in-Some-lost_way g c =
     let at : slice_get c.self.inside.sites.items c.args.place ≡ Some c.in-Some.site.now =
     ap (λ (ss : List SiteState). slice_get ss c.args.place) (sym c.deref.ensures.value)
     ∙ slice_get_read c.deref.result.now _ c.args.place c.in-Some.site.now refl c.in-Some.ensures.lookup.3.0 c.in-Some.ensures.lookup.1 in
-    let pool = pool_of c.self.inside.proxy c.self.inside.sites.items in
-    let never_lives : Lives c.args.place c.args.generation pool → ⊥ = rw (← c.self.view_is) at (not_so {P = Lives c.args.place c.args.generation c.args.self.now} c.lives.result c.if-lives.false c.lives.ensures.1) in
-    let found : Some c.in-Some-way.i ≡ way_of c.args.generation c.in-Some.site.now.lost = sym c.in-Some-way.is ∙ c.way.ensures in
-    let inside = (found_way c.args.generation c.in-Some.site.now.lost c.in-Some-way.i (sym found)).inside in
+    let pool = pool_of c.self.inside.homes.items c.self.inside.proxies c.self.inside.sites.items in
+    let never_lives : Lives c.args.proxy c.args.place c.args.generation pool → ⊥ =
+    rw (← c.self.view_is) at (not_so {P = Lives c.args.proxy c.args.place c.args.generation c.args.self.now} c.lives.result c.if-lives.false c.lives.ensures.1) in
+    let found : Some c.in-Some-lost_way.i ≡ way_of c.args.proxy c.args.generation c.in-Some.site.now.lost = sym c.in-Some-lost_way.is ∙ c.lost_way.ensures in
+    let inside = (found_way c.args.proxy c.args.generation c.in-Some.site.now.lost c.in-Some-lost_way.i (sym found)).inside in
     let lost : c.lost.result.now ≡ c.in-Some.site.now.lost = c.lost.ensures in
-    let way_at : slice_get c.in-Some.site.now.lost c.in-Some-way.i ≡ Some c.index-lost-i.result =
-    ap (λ (ways : List StaleState). slice_get ways c.in-Some-way.i) (sym lost)
-    ∙ slice_get_read c.lost.result.now _ c.in-Some-way.i c.index-lost-i.result refl (subst (λ (ways : List StaleState). c.in-Some-way.i < length ways) (sym lost) inside) (search rules) in
-    rw (← c.self.view_is) (by_late c.args.place c.args.generation pool _ _ c.has_request-in-Some-way.result never_lives
-    (serves_lost c.args.place c.args.generation c.in-Some-way.i pool c.in-Some.site.now c.index-lost-i.result at found way_at c.has_request-in-Some-way.result (search rules)))
+    let way_at : slice_get c.in-Some.site.now.lost c.in-Some-lost_way.i ≡ Some c.index-lost-i.result =
+    ap (λ (ways : List StaleState). slice_get ways c.in-Some-lost_way.i) (sym lost)
+    ∙ slice_get_read c.lost.result.now _ c.in-Some-lost_way.i c.index-lost-i.result refl (subst (λ (ways : List StaleState). c.in-Some-lost_way.i < length ways) (sym lost) inside) (search rules) in
+    rw (← c.self.view_is) (by_late c.args.proxy c.args.place c.args.generation pool _ _ c.has_request-in-Some-lost_way.result never_lives
+    (serves_lost c.args.proxy c.args.place c.args.generation c.in-Some-lost_way.i pool c.in-Some.site.now c.index-lost-i.result at found way_at c.has_request-in-Some-lost_way.result (search rules)))
 
 -- the server has no such generation
 pub returns-in-None : goal.returns-in-None
@@ -47,7 +48,8 @@ returns-in-None g c =
     let at : slice_get c.self.inside.sites.items c.args.place ≡ Some c.in-Some.site.now =
     ap (λ (ss : List SiteState). slice_get ss c.args.place) (sym c.deref.ensures.value)
     ∙ slice_get_read c.deref.result.now _ c.args.place c.in-Some.site.now refl c.in-Some.ensures.lookup.3.0 c.in-Some.ensures.lookup.1 in
-    let pool = pool_of c.self.inside.proxy c.self.inside.sites.items in
-    let never_lives : Lives c.args.place c.args.generation pool → ⊥ = rw (← c.self.view_is) at (not_so {P = Lives c.args.place c.args.generation c.args.self.now} c.lives.result c.if-lives.false c.lives.ensures.1) in
-    let none : None ≡ way_of c.args.generation c.in-Some.site.now.lost = sym c.in-None.is ∙ c.way.ensures in
-    rw (← c.self.view_is) (by_late c.args.place c.args.generation pool _ _ false never_lives (never _ (λ late. lost_no_way c.args.place c.args.generation pool c.in-Some.site.now at none late.there)))
+    let pool = pool_of c.self.inside.homes.items c.self.inside.proxies c.self.inside.sites.items in
+    let never_lives : Lives c.args.proxy c.args.place c.args.generation pool → ⊥ =
+    rw (← c.self.view_is) at (not_so {P = Lives c.args.proxy c.args.place c.args.generation c.args.self.now} c.lives.result c.if-lives.false c.lives.ensures.1) in
+    let none : None ≡ way_of c.args.proxy c.args.generation c.in-Some.site.now.lost = sym c.in-None.is ∙ c.lost_way.ensures in
+    rw (← c.self.view_is) (by_late c.args.proxy c.args.place c.args.generation pool _ _ false never_lives (never _ (λ late. lost_no_way c.args.proxy c.args.place c.args.generation pool c.in-Some.site.now at none late.there)))

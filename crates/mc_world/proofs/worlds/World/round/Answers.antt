@@ -1,5 +1,5 @@
 use Rattle.std.proofs.Common.{◌||◌}
-use Rattle.mc_world.specs.Acts.{NoClient, NoServer}
+use Rattle.mc_world.specs.Acts.{NoClient, NoLink}
 use Rattle.mc_world.specs.Worlds.{CourseState}
 use Rattle.mc_world.specs.declared.acts.Act.TheVariants.{PutAnswer, ReachProxy, ReachServer, Serve, TakeBytes, TakeReply, TakeRequest}
 use Rattle.mc_world.proofs.PoolEvents.AppliesLemmas.{at_error}
@@ -23,7 +23,7 @@ pub returns-clause-over : goal.returns-clause-over
 returns-clause-over g c =
     let m = c.args.moment in
     let Requests = λ (s : CourseState). NoClient m (λ x. TakeRequest x) s in
-    let Served = λ (s : CourseState). NoServer m (λ x. ReachServer x) s × NoServer m (λ x. Serve x) s × NoServer m (λ x. ReachProxy x) s × NoServer m (λ x. TakeReply x) s in
+    let Served = λ (s : CourseState). NoLink m (λ p x. ReachServer p x) s × NoLink m (λ p x. Serve p x) s × NoLink m (λ p x. ReachProxy p x) s × NoLink m (λ p x. TakeReply p x) s in
     let Answers = λ (s : CourseState). NoClient m (λ x. PutAnswer x) s × NoClient m (λ x. TakeBytes x) s in
     let taken = c.in_ok-taken.taken in
     let served = c.in_ok-served.served in
