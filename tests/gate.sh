@@ -51,6 +51,7 @@ add tests/gate/examples.sh
 add tests/gate/prefixes.py
 add tests/gate/random.sh 5 2000
 add tests/gate/chart.py tests/examples/pool/pool_late_bytes_are_served.txt docs/lost_link.svg --check
+add tests/gate/chart.py tests/examples/pool/pool_two_proxies_and_a_late_store.txt docs/two_proxies.svg --check
 add tests/gate/pools.py --worlds 100
 add tests/gate/pool_mistakes.py
 add tests/gate/spellings.py 5

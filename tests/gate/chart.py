@@ -4,9 +4,10 @@
 Usage: chart.py SCRIPT PICTURE [--check] [--program PROGRAM]      (mc_sim, as it was built)
 
 Clients are on the left, each left of its proxy, servers on the right; time goes down. The picture draws what the program reports of each line
-(`--trace`): bytes that move are arrows, a step at one place is a dot with its words, a lost link is a red break. Bytes on a lost generation of a link
-are dashed. A line that did nothing is grey. If losses are missed, the proxies' columns say so. With --check nothing is written: the picture must be
-as it would be drawn, and the last line is 'N passed, M failed'. tests/lib/pool_model.py can take the place of the program.
+(`--trace`): bytes that move are arrows, a step at one place is a dot with its words, a lost link is a red break. Bytes on a lost generation of
+a link are dashed. Where there are several proxies, a server's steps name the link as a script does. A line that did nothing is grey. If losses
+are missed, the proxies' columns say so. With --check nothing is written: the picture must be as it would be drawn, and the last line is
+'N passed, M failed'. tests/lib/pool_model.py can take the place of the program.
 """
 import argparse
 import html
@@ -21,7 +22,7 @@ from pool_script import CLIENT_EVENTS, LINK_EVENTS
 from suite import built, counted
 
 PROXIES = {"told": "", "missed": ", losses missed"}
-COLUMN, LEFT, TOP, ROW = 270, 130, 70, 34
+COLUMN, LEFT, TOP, ROW, LETTER = 270, 130, 70, 34, 8
 STYLE = """
 text { font: 13px 'DejaVu Sans Mono', Menlo, monospace; fill: #1b1f24 }
 .head { font-weight: bold; text-anchor: middle }
@@ -54,7 +55,7 @@ def link_of(word):
     return int(proxy or 0), int(place)
 
 
-def short(text, length=34):
+def short(text, length=33):
     return text if len(text) <= length else text[: length - 1] + "\u2026"
 
 
@@ -72,6 +73,7 @@ class Chart:
         self.gone = set()
         self.parts = []
         self.y = TOP
+        self.right = 0  # where the words end at most
 
     def x(self, column):
         return LEFT + column * COLUMN
@@ -89,13 +91,14 @@ class Chart:
         return self.x(self.proxies * (self.clients + 1) + place)
 
     def write(self, x, words, kind=""):
+        self.right = max(self.right, x + LETTER * len(words))
         self.parts.append(f'<text x="{x}" y="{self.y - 7}" class="{kind}">{html.escape(words)}</text>')
 
     def arrow(self, start, end, words, late=False):
         kind = "moved late" if late else "moved"
-        gap = 7 if end > start else -7
-        self.parts.append(f'<path class="{kind}" d="M {start} {self.y} L {end - gap} {self.y}"/>')
-        self.write((start + end) / 2, words, "said")
+        way = 1 if end > start else -1
+        self.parts.append(f'<path class="{kind}" d="M {start} {self.y} L {end - way * 7} {self.y}"/>')
+        self.write(start + way * COLUMN / 2, words, "said")
 
     def dot(self, x, words, kind="done"):
         self.parts.append(f'<circle class="{kind}" cx="{x}" cy="{self.y - 11}" r="4"/>')
@@ -103,7 +106,7 @@ class Chart:
 
     def broken(self, link, words):
         start, end, y = self.proxy(link[0]), self.server(link[1]), self.y - 4
-        middle = (start + end) / 2
+        middle = start + COLUMN / 2
         self.parts.append(f'<path class="broken" d="M {start + 8} {y} L {middle - 14} {y} l 8 -9 l 8 18 l 8 -18 l 8 9 L {end - 8} {y}"/>')
         self.y += 24
         self.write(middle, words, "said gone")
@@ -118,7 +121,7 @@ class Chart:
             getattr(self, f"on_{name}")(*words_of)
             return
         x = self.proxy_of(int(words_of[0])) if name in CLIENT_EVENTS else self.proxy(words_of[0][0] if name in LINK_EVENTS else 0)
-        self.write(x + 10, f"nothing: {short(words)}", "nothing")
+        self.write(x + 10, short(f"nothing: {words}"), "nothing")
 
     def on_bytes(self, client, text):
         self.arrow(self.client(int(client)), self.proxy_of(int(client)), short(text))
@@ -144,8 +147,8 @@ class Chart:
         self.arrow(self.proxy(link[0]), self.server(link[1]), f"{'late: ' if late else ''}{count} bytes of generation {generation}", late)
 
     def on_serve(self, link, generation, moment):
-        late = f", generation {generation}{self.whose(link)}" if self.is_late(link, int(generation)) else ""
-        self.dot(self.server(link[1]), f"serves, at {moment}{late}")
+        late = f", generation {generation}" if self.is_late(link, int(generation)) else ""
+        self.dot(self.server(link[1]), f"serves{self.of_several(f' {link[0]}:{link[1]}')}, at {moment}{late}")
 
     def on_toproxy(self, link, count):
         self.arrow(self.server(link[1]), self.proxy(link[0]), f"{count} bytes")
@@ -163,19 +166,20 @@ class Chart:
         self.arrow(self.proxy(link[0]), self.server(link[1]), f"the link is back, generation {self.generations[link]}")
 
     def on_end(self, link, generation):
-        self.dot(self.server(link[1]), f"sees the end of generation {generation}{self.whose(link)}", "gone")
+        self.dot(self.server(link[1]), f"sees the end of {self.of_several(f'{link[0]}:{link[1]}, ')}generation {generation}", "gone")
 
     def on_restart(self, place):
         self.lose(link for link in self.up if link[1] == int(place))
-        self.dot(self.server(int(place)), "dies, and begins anew with nothing", "gone")
+        self.dot(self.server(int(place)), "dies, and begins anew, empty", "gone")
 
     def on_proxyrestart(self, proxy):
         for client in range(int(proxy) * self.clients, (int(proxy) + 1) * self.clients):
             if client not in self.gone:
                 self.on_gone(client)
         self.dot(self.proxy(int(proxy)), "dies, and begins anew", "gone")
-        self.y += ROW
-        self.lose(link for link in self.up if link[0] == int(proxy))
+        there = [link for link in self.up if link[0] == int(proxy) and self.up[link]]
+        self.y += ROW if there else 0
+        self.lose(there)
 
     def lose(self, links):
         """The links that are up are lost, one below the other."""
@@ -191,18 +195,20 @@ class Chart:
         self.generations[proxy, place], self.up[proxy, place] = int(is_new), is_new
         if is_new:
             self.columns.append(f"server {place}")
-            self.dot(self.server(place), f"joins{f' at proxy {proxy}' if self.proxies > 1 else ''}: {words[-1]}")
+            self.dot(self.server(place), f"joins{self.of_several(f' at proxy {proxy}')}: {words[-1]}")
         else:
-            self.dot(self.proxy(proxy), f"learns of server {place}: {words[-1]}")
+            self.dot(self.proxy(proxy), f"learns of server {place}")
 
-    def whose(self, link):
-        return f" of proxy {link[0]}" if self.proxies > 1 else ""
+    def of_several(self, words):
+        """These words, if there are several proxies."""
+        return words if self.proxies > 1 else ""
 
     def on_drain(self, moment):
-        self.dot(self.proxy(), f"all that is left is done, at {moment}")
+        for proxy in range(self.proxies):
+            self.dot(self.proxy(proxy), f"all that is left is done, at {moment}")
 
     def picture(self):
-        width, height = self.x(len(self.columns) - 1) + 250, self.y + 30
+        width, height = int(max(self.x(len(self.columns) - 1) + 250, self.right + 10)), self.y + 30
         out = [f'<svg xmlns="http://www.w3.org/2000/svg" width="{width}" height="{height}" viewBox="0 0 {width} {height}">', f"<style>{STYLE}</style>"]
         for name, color in (("point", "#0b5cad"), ("late", "#b15c00")):
             out.append(f'<marker id="{name}" viewBox="0 0 10 10" refX="8" refY="5" markerWidth="7" markerHeight="7" orient="auto">'

@@ -1,7 +1,8 @@
 """Random worlds: pools whose clients send commands of all kinds (random_script.py), whole and in pieces, and with all events that a pool script
 can have, mostly if they apply. A world has 1 to 4 proxies, half of them one, 1 to 5 servers, 1 to 20 clients of each proxy, points of its own or
-libketama's, caches from tiny to large. In half of the worlds losses are missed, unless a caller asks for one of the two. Many end with a drain,
-and a try of each event that a pool does by itself.
+libketama's, caches from tiny to large. In half of the worlds losses are missed, unless a caller asks for one of the two. Up to half of several
+proxies die, and the others go on. Many worlds end with a drain, and a try of each event that a pool does by itself. In each hundredth world
+several proxies take all connections of a server.
 """
 
 import random
@@ -61,7 +62,9 @@ class World:
     def __init__(self, seed, losses=None):
         self.dice = dice = random.Random(seed)
         self.others = others = random.Random(f"proxies {seed}")
-        self.proxies = others.choice(PROXIES)
+        self.fills = seed % 100 == 0  # all connections of a server are taken
+        self.dead = set()  # the proxies that died
+        self.proxies = max(others.choice(PROXIES), 2 if self.fills else 1)
         servers, clients = dice.randrange(1, 6), dice.choice([1, 1, 2, 3, 5, 8, 20])
         if self.proxies > 1:
             servers, clients = others.choice([1, 1, 2, servers]), others.choice([1, 1, 1, 2, 3, clients])
@@ -93,8 +96,9 @@ class World:
         if self.proxies > 1:
             chances["cut"] = others.choice([0, 0.1, 0.4])
             chances["join"] = others.choice([0, 0.3, 1])
-            chances["proxyrestart"] = others.choice([0, 0, 0.03, 0.1])
-            chances["back"] = max(chances["back"], chances["join"], chances["cut"] * self.proxies)
+            chances["proxyrestart"], chances["death"] = 0, others.choice([0, 0.3, 1, 1])
+            chances["back"] = max(chances["back"], chances["join"], chances["cut"] * self.proxies, chances["death"] * 2)
+            chances["end"] = max(chances["end"], chances["death"])
         return chances
 
     def add(self, line):
@@ -110,6 +114,10 @@ class World:
 
     def add_event(self, name, *words):
         return self.add(" ".join([name, *(word if isinstance(word, str) else self.named(word) for word in words)]))
+
+    def add_each(self, name, links):
+        for link in links:
+            self.add_event(name, link)
 
     # When events apply
 
@@ -199,14 +207,29 @@ class World:
     def cut(self):
         """All proxies lose their links to a server."""
         place = self.others.randrange(len(self.pool.sites))
-        for name in self.pool.links:
-            if name[1] == place:
-                self.add_event("lost", name)
+        self.add_each("lost", [name for name in self.pool.links if name[1] == place])
+
+    def death(self):
+        """A proxy dies: its clients have just sent commands, which are on their way, or at a server, or replied. At least half of the proxies
+        never die. One that has died may die again."""
+        proxy = self.others.randrange(self.proxies)
+        if len(self.dead | {proxy}) * 2 > self.proxies:
+            return
+        self.dead.add(proxy)
+        for client in self.clients_that(lambda client: True):
+            if self.script.proxy_of(client) == proxy:
+                self.add_event("bytes", client, self.text(client))
+                self.add_event("turn", client)
+        for name in ("toserver", "serve", "toproxy")[: self.others.randrange(4)]:
+            for numbers in self.places(name):
+                if numbers[0][0] == proxy:
+                    self.add_event(name, *numbers, self.scene.moment if name == "serve" else self.count())
+        self.add_event("proxyrestart", proxy)
 
     def happen(self):
         dice = self.dice
         name = dice.choices(list(self.chances), list(self.chances.values()))[0]
-        if name in ("join", "cut"):
+        if name in ("join", "cut", "death"):
             getattr(self, name)()
             return
         if name == "drain":
@@ -227,7 +250,7 @@ class World:
         has as many connections as it can."""
         client = self.dice.randrange(len(self.pool.clients))
         if self.others.random() < 0.2:
-            self.connect()
+            self.fill()
             return
         kind = self.dice.choice(["requests", "client", "link"])
         big = b"set big 0 0 1000000\r\n" + b"v" * 1000000 + b"\r\n"
@@ -241,14 +264,22 @@ class World:
         else:
             self.take(client, big * 10, 10)
 
-    def connect(self):
-        """Links of all proxies to a server are lost and back more often than it has room for connections."""
-        place = self.others.randrange(self.pool.rings[0].servers)
+    def fill(self):
+        """Links of all proxies to a server are lost and back until it has as many connections as it can. Then all links to it are lost. None
+        comes back before an end makes room for one; in half of the worlds a restart makes room for all."""
+        place = self.others.randrange(self.script.servers)
         names = [name for name in self.pool.links if name[1] == place]
-        for _ in range(MOST_CONNECTIONS + 5):
+        while self.pool.connections(place) < MOST_CONNECTIONS:
             name = self.others.choice(names)
             self.add_event("lost", name)
             self.add_event("back", name)
+        self.add_each("lost", names)
+        self.add_each("back", names)
+        self.add_event("end", *self.others.choice(self.pool.sites[place].lost))
+        self.add_each("back", names)
+        if self.others.random() < 0.5:
+            self.add_event("restart", place)
+            self.add_each("back", names)
 
     def take(self, client, text, turns):
         self.add(f"bytes {client} {escaped(text)}")
@@ -270,12 +301,12 @@ class World:
         self.add(f"drain {self.scene.moment}")
 
     def try_all(self):
-        """Each event that a pool does by itself is tried at each of its places."""
+        """Each event that a pool does by itself is tried at each of its places: of a link's generations, at the last ten."""
         for client in range(len(self.pool.clients)):
             for event in ("turn {}", "emit {}", "takes {} all"):
                 self.add(event.format(client))
         for name, link in self.pool.links.items():
-            for generation in range(1, link.generation + 1):
+            for generation in range(max(1, link.generation - 9), link.generation + 1):
                 for event, *words in (("toserver", "all"), ("serve", 100), ("end",)):
                     self.add_event(event, name, generation, *words)
             self.add_event("toproxy", name, "all")
@@ -283,7 +314,9 @@ class World:
 
     def played(self):
         dice = self.dice
-        for _ in range(dice.choice([20, 60, 60, 200, 200, 200, 600])):
+        for number in range(dice.choice([20, 60, 60, 200, 200, 200, 600])):
+            if self.fills and number == 10:
+                self.fill()
             self.happen()
         if dice.random() < 0.01:
             self.crowd()
