@@ -121,7 +121,7 @@ writer_between order histories key a b same w =
 abbrev IsOwnOrOther : (order : Order) (histories : ℕ → List Entry) (key : List ℕ) → Executed order histories key → Executed order histories key
     → ℕ → List ℕ → AReply (List ℕ) → Type 0
 IsOwnOrOther order histories key write read flags value reply =
-    ShowsValue read.atom reply flags value ⊎ ((other : Executed order histories key) × ComesBetween write other read × MayHaveWritten other)
+    ShowsValue read.atom reply flags value ⊎ ((other : Executed order histories key) × ComesBetween write other read × (other.place ≡ read.place) × MayHaveWritten other)
 
 read_in_life : (home : Homes) (counter : ℕ) (order : Order) (histories : ℕ → List Entry) (log : Log) (key : List ℕ) → IsLinearizable home counter order histories log key
     → (write read : Executed order histories key) (flags : ℕ) (value : List ℕ) → StoresWhole write.atom flags value → WasDone order log (tag_in write.entry)
@@ -144,7 +144,7 @@ read_in_life home counter order histories log key h write read flags value store
             sym (run_says home counter order histories log key h read c.last (Hit shown_flags number shown) c.last_tells answered)
                 ∙ ap (λ (reply : AReply (List ℕ)). spelling_of read.atom reply) shows,
           )
-      | inr w ↦ inr (w.x, writer_between order histories key write read same w, w.wrote)
+      | inr w ↦ inr (w.x, writer_between order histories key write read same w, w.at ∙ sym same, w.wrote)
     ]
 
 -- a life begins with no item, so a hit in it is of a later command
@@ -159,7 +159,7 @@ read_after home counter order histories log key h write read flags low value get
     let reads : c.done.atom ≡ atoms.Get gets.0 gets.1 gets.2 = recorded-atom order histories key read c.done c.tells ∙ gets.3 in
     elim (quiet_or_wrote order histories key read.place low read.number c.commands c.front c.rising c.told) [
       | inl quiet ↦ absurd (quiet-misses c.front c.back c.done counter gets.0 gets.1 gets.2 hit.flags hit.cas hit.value c.run quiet reads hit.is)
-      | inr w ↦ inr (w.x, (later w.x w.at w.from, inr (w.at, w.to)), w.wrote)
+      | inr w ↦ inr (w.x, (later w.x w.at w.from, inr (w.at, w.to)), w.at, w.wrote)
     ]
 
 -- of two commands at most one comes first
@@ -183,7 +183,7 @@ read_own_writes home losses counter order texts outs histories log pool key writ
     ] in
     elim found [
       | inl shows ↦ inl shows
-      | inr o ↦ inr (o.0, o.1, o.2, λ replied before_it goes. not_both order histories key write o.0 o.1.0 (h.in_time o.0 write replied before_it goes))
+      | inr o ↦ inr (o.0, o.1, o.2, o.3, λ replied before_it goes. not_both order histories key write o.0 o.1.0 (h.in_time o.0 write replied before_it goes))
     ]
 
 -- a command between two of one place
@@ -198,7 +198,7 @@ pub lose_no_cas : (home : Homes) (losses : Losses) (counter : ℕ) (order : Orde
     → IsLinearizablePool home losses counter order texts outs histories log → (key : List ℕ) → ClientsLoseNoCas order histories log key
 lose_no_cas home losses counter order texts outs histories log pool key read cas other gets flags number shown small answered compares done earlier life same inside also between =
     let h = pool.keys key in
-    let less : read.number < cas.number = elim (h.in_time read cas (Hit flags (Some number) shown, answered.1) earlier (inr (omega (arith, same)))) [
+    let less : read.number < cas.number = elim (h.in_time read cas (Hit flags (Some number) shown, answered.1) earlier (inr (inl (omega (arith, same))))) [
       | inl lower ↦ absurd (omega (arith, lower, same))
       | inr both ↦ both.1
     ] in

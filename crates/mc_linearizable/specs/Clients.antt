@@ -84,16 +84,17 @@ abbrev pub IsInLife : {order : Order} {histories : ℕ → List Entry} {key : Li
 IsInLife life log x = (taken_before x.place life log ≤ x.number) × (x.number < taken_before x.place (suc life) log)
 
 -- Clients read their own writes. A whole value was stored, and its client was answered so. Then a request was taken that gets the key, and was answered by a
--- hit. The key was not routed back. The hit shows the value with its flags, or another command that may have written is between the two. The other command was
--- not answered by its reply before the request of the store was taken, unless the key was routed back from it to the store.
+-- hit. The key was not routed back. The hit shows the value with its flags, or another command that may have written is between the two, and was executed by the
+-- server that gave the hit. The other command was not answered by its reply before the request of the store was taken, unless the key was routed back from it
+-- to the store.
 abbrev pub ClientsReadOwnWrites : Homes → Order → (ℕ → List Entry) → Log → List ℕ → Type 0
 ClientsReadOwnWrites home order histories log key =
     (write read : Executed order histories key) (flags : ℕ) (value : List ℕ) → StoresWhole write.atom flags value → WasDone order log (tag_in write.entry)
     → IsGet read.atom → (shown_flags : ℕ) (number : Option ℕ) (shown : List ℕ) → WasAnsweredBy order log (tag_in read.entry) (Hit shown_flags number shown)
-    → IsEarlier (tag_in write.entry) (tag_in read.entry) log → IsNotRoutedBack home write read
+    → IsEarlier (tag_in write.entry) (tag_in read.entry) log → IsNotRoutedBack home log write read
     → ShowsValue read.atom (Hit shown_flags number shown) flags value
-    ⊎ ((other : Executed order histories key) × ComesBetween write other read × MayHaveWritten other
-    × (WasReplied order (tag_in other.entry) → IsEarlier (tag_in other.entry) (tag_in write.entry) log → IsNotRoutedBack home other write → ⊥))
+    ⊎ ((other : Executed order histories key) × ComesBetween write other read × (other.place ≡ read.place) × MayHaveWritten other
+    × (WasReplied order (tag_in other.entry) → IsEarlier (tag_in other.entry) (tag_in write.entry) log → IsNotRoutedBack home log other write → ⊥))
 
 -- Clients lose no write by `cas`. A hit of `gets` or `gats` showed a number, and its client was answered so. Then a request was taken that compares this
 -- number, and was answered that it stored. Both were executed in one life of one server. So no command between the two has written.

@@ -11,10 +11,9 @@
 -- Weaker: a `get` of several keys is a command for each, so it may show values that were never stored together. A flush has no key: a register
 -- may forget at any time, and nothing says that it does. Of two keys no common order is stated. Their theorem 1 has one for commands of one key
 -- each: what is linearizable key by key is so as a whole. That is not proved here. Proxies whose rings differ may have a key at two servers, each with a
--- register of its own: real time is kept among the clients of each proxy, and at each server, but not between the two (`two_rings_show_older_values`).
--- Between is by the key's order: a command of another proxy may be between two of one proxy, and answered before the first, a store, was taken, if the
--- store was routed back.
-use Rattle.std.specs.Prelude.{ℕ, ◌≡◌, ◌<◌, ◌≤◌, ◌⊎◌, ◌++◌, true, List, Some, None, All, map, slice_get, take}
+-- register of its own. Then real time is kept among the clients of each proxy, at each server, and from the server of the lower place to the other, but not
+-- back (`two_rings_show_older_values`). Of a key that stays at one server it is kept between all clients (`keys_that_stay_keep_to_real_time`).
+use Rattle.std.specs.Prelude.{ℕ, ◌≡◌, ◌<◌, ◌≤◌, ◌⊎◌, ◌==◌, ◌&&◌, ◌++◌, nat_le, true, List, [], ◌∷◌, Some, None, All, map, slice_get, take, if◌then◌else◌}
 use Rattle.mc_request.specs.Requests.{requests_of}
 use Rattle.mc_request.specs.declared.parts.Atom.{Atom}
 use Rattle.mc_request.specs.declared.parts.Parsed.{Parsed}
@@ -35,6 +34,7 @@ use Rattle.mc_registers.specs.Records.{RecordEach, on_key}
 use Rattle.mc_world.specs.Accounts.{Accounts, WasNeverSentOrLost, answers_by}
 use Rattle.mc_world.specs.Homes.{Homes}
 use Rattle.mc_world.specs.Logs.{Log, before, in_life, moments_of, number_of, puts, takes, turns_of}
+use Rattle.mc_world.specs.declared.logs.Logged.TheVariants.{Happened, Joined, Restarted}
 use Rattle.mc_world.specs.WorldState.{home_of}
 use Rattle.mc_world.specs.Worlds.{WorldState, cache_of, history_of, put_out_of, text_of}
 use Rattle.mc_pool_laws.specs.Outcomes.{HasOutcomeBy, WasAnswered}
@@ -58,10 +58,26 @@ ComesFirst a b = (a.place < b.place) ⊎ ((a.place ≡ b.place) × (a.number < b
 abbrev pub IsEarlier : Tag → Tag → Log → Type 0
 IsEarlier a b log = WasAnswered a (before (takes b.session) b.request log)
 
--- A key is not routed back from one command on it to another: the clients of both have one proxy, or the place of the second is not lower. No proxy
--- routes a key back by its own rings. Of two proxies one may while it has fewer servers than the other, or has them under other addresses.
-abbrev pub IsNotRoutedBack : {order : Order} {histories : ℕ → List Entry} {key : List ℕ} → Homes → Executed order histories key → Executed order histories key → Type 0
-IsNotRoutedBack home a b = (home a.entry.client ≡ home b.entry.client) ⊎ (a.place ≤ b.place)
+-- the addresses of the servers that joined at a proxy, in order: of those up to a place
+abbrev pub joined_to : ℕ → ℕ → Log → List (List ℕ)
+joined_to proxy place [] = []
+joined_to proxy place (Happened event ∷ es) = joined_to proxy place es
+joined_to proxy place (Joined of server address up ∷ es) =
+    if (of == proxy) && nat_le server place then address ∷ joined_to proxy place es else joined_to proxy place es
+joined_to proxy place (Restarted server ∷ es) = joined_to proxy place es
+
+-- When the second of two requests was taken, its proxy had the servers up to a place that the first one's proxy had when that was taken, under the same
+-- addresses. Those of the opening ring all proxies have.
+abbrev pub HasServersTo : Homes → ℕ → Tag → Tag → Log → Type 0
+HasServersTo home place a b log =
+    joined_to (home b.session) place (before (takes b.session) b.request log) ≡ joined_to (home a.session) place (before (takes a.session) a.request log)
+
+-- A key is not routed back from one command on it to another: the clients of both have one proxy, or the place of the second is not lower, or its proxy
+-- had the servers up to the place of the first. No proxy routes a key back by its own rings. Of two proxies one may while it lacks one of these
+-- servers, or has another address for it.
+abbrev pub IsNotRoutedBack : {order : Order} {histories : ℕ → List Entry} {key : List ℕ} → Homes → Log → Executed order histories key → Executed order histories key → Type 0
+IsNotRoutedBack home log a b =
+    (home a.entry.client ≡ home b.entry.client) ⊎ ((a.place ≤ b.place) ⊎ HasServersTo home a.place (tag_in a.entry) (tag_in b.entry) log)
 
 -- A proxy took the reply to a command. A client may not see it: a `get` of two keys, one of which was lost, can be answered by one line.
 abbrev pub WasReplied : Order → Tag → Type 0
@@ -83,7 +99,7 @@ pub record IsLinearizable (home : Homes) (counter : ℕ) (order : Order) (histor
   -- in this order a register may give these replies, if it begins anew with each life of a server
   pub lives : (place life : ℕ) → AreOfRegister counter order place key (in_life place life log (histories place))
   -- the order keeps to real time, for each command whose reply its proxy took, to each command to which the key is not routed back
-  pub in_time : (a b : Executed order histories key) → WasReplied order (tag_in a.entry) → IsEarlier (tag_in a.entry) (tag_in b.entry) log → IsNotRoutedBack home a b
+  pub in_time : (a b : Executed order histories key) → WasReplied order (tag_in a.entry) → IsEarlier (tag_in a.entry) (tag_in b.entry) log → IsNotRoutedBack home log a b
       → ComesFirst a b
   -- each command whose request was answered is in it, with the reply that its proxy took, or was lost
   pub told : (tag : Tag) (place : ℕ) (atom : Atom (List ℕ)) → command_at order tag ≡ Some (to_place place atom) → is_on key atom ≡ true → WasAnswered tag log

@@ -18,9 +18,10 @@ pub fn commands_are_in_their_run()
 {}
 
 /// A client stored a whole value, and the answer says so. A `get` that was taken after that answer, and hits, shows the value, or another command that
-/// may have written is between the two in the key's order. This holds whichever servers joined or restarted, if both clients have one proxy, or the
-/// key was not routed back: in the account `two_rings_show_older_values` it was. Between is by the key's order: a command of another proxy may be
-/// between, and answered by its reply before the store was taken, but only if the key was routed back to the store. In the run
+/// may have written is between the two in the key's order, and was executed by the server that gave the hit. This holds whichever servers joined or
+/// restarted, if both clients have one proxy, or the key was not routed back: in the account `two_rings_show_older_values` it was. Between is by the key's
+/// order: a command whose reply was taken, by another proxy, and answered before the store was taken, is between only if the key was routed back to the
+/// store. In the run
 /// `another_value_is_read` (`mc_registers`) the other command is another store, and in the account `lost_commands_may_come_late` it is a lost one. In
 /// the account `early_gets_show_older_values` the get was taken before that answer.
 pub fn clients_read_own_writes()
@@ -75,8 +76,8 @@ pub fn one_client_wins()
 {}
 
 /// An `add` stored, and no command between an earlier one and it may have written. If an item was stored after the earlier one, it was forgotten, or was
-/// dead. So of two clients whose `add` stored, the second found the lock forgotten, dead or written. In a run of `forgotten_locks_are_taken`
-/// (`mc_registers`) it is deleted.
+/// dead. So of two clients whose `add` stored at one server, the second found the lock forgotten, dead or written. If the key's server joined in between, by
+/// one proxy, the lock may still be held at the server before. In a run of `forgotten_locks_are_taken` (`mc_registers`) it is deleted.
 pub fn an_add_excludes()
     ensures { (home : Homes) (losses : Losses) (counter : ℕ) (order : Order) (texts outs : ℕ → List ℕ) (histories : ℕ → List Entry) (log : Log)
         → IsLinearizablePool home losses counter order texts outs histories log → (key : List ℕ) → AnAddExcludes order histories log key }

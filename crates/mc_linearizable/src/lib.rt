@@ -19,8 +19,9 @@ pub use clients::{
 };
 pub use examples::{a_restart_and_a_join_are_linearizable, two_rings_show_older_values};
 pub use laws::{
-    every_run_is_linearizable, pipelined_commands_keep_their_order, pools_are_linearizable,
-    rings_that_grow_route_no_key_back,
+    every_run_is_linearizable, keys_that_stay_keep_to_real_time,
+    pipelined_commands_keep_their_order, pools_are_linearizable, rings_that_grow_route_no_key_back,
+    unjoined_pools_keep_to_real_time,
 };
 pub use losses::{
     lost_commands_happen_at_most_once, lost_commands_may_come_late, lost_commands_may_never_happen,

@@ -16,14 +16,9 @@ use mc_cache::{MAX_BUDGET, MAX_ITEMS};
 use mc_ring::{Address, Point, Ring, RingError, SERVER_LIMIT};
 use mc_route::Losses;
 use mc_script::{LineIter, SimError, cut_at_space, lines_of, read_limit};
+use mc_world::{MAX_CLIENTS, MAX_PROXIES};
 use std::alloc::{AllocError, Global};
 use std::marker::Model;
-
-/// The most clients of all proxies.
-const MAX_CLIENTS: u64 = 1024;
-
-/// The most proxies.
-const MAX_PROXIES: u64 = 64;
 
 /// A pool script. Contracts see its content.
 #[derive(Drop)]
@@ -334,10 +329,10 @@ fn read_limits(line: &[u8]) -> Option<(u64, u64, u64, usize, usize)>
     let (clients, rest) = cut_at_space(rest)?;
     let (budget, rest) = cut_at_space(rest)?;
     let servers = read_limit(servers, SERVER_LIMIT as u64)?;
-    let clients = read_limit(clients, MAX_CLIENTS)?;
+    let clients = read_limit(clients, MAX_CLIENTS as u64)?;
     let budget = read_limit(budget, MAX_BUDGET)?;
     let (items, proxies) = read_last_limits(rest)?;
-    let fits = command == b"pool".as_slice() && clients * proxies as u64 <= MAX_CLIENTS;
+    let fits = command == b"pool".as_slice() && clients * proxies as u64 <= MAX_CLIENTS as u64;
     fits.then_some((servers, clients, budget, items, proxies))
 }
 
@@ -353,6 +348,6 @@ fn read_last_limits(text: &[u8]) -> Option<(usize, usize)>
         None => (text, b"1".as_slice()),
     };
     let items = read_limit(items, MAX_ITEMS as u64)?;
-    let proxies = read_limit(proxies, MAX_PROXIES)?;
+    let proxies = read_limit(proxies, MAX_PROXIES as u64)?;
     Some((items as usize, proxies as usize))
 }

@@ -8,3 +8,4 @@ pub mod DrainLemmas
 pub mod RestLemmas
 pub mod RoundLemmas
 pub mod EndLemmas
+pub mod StandLemmas

@@ -76,15 +76,15 @@ abbrev pub is_way : ℕ → ℕ → StaleState → Bool
 is_way proxy generation way = (way.proxy == proxy) && (way.generation == generation)
 
 -- the index of a lost generation of a proxy among those that are not ended: the first of its number
-abbrev pub way_of : ℕ → ℕ → List StaleState → Option ℕ
-way_of proxy generation ways = position (is_way proxy generation) ways
+abbrev pub lost_way : ℕ → ℕ → List StaleState → Option ℕ
+lost_way proxy generation ways = position (is_way proxy generation) ways
 
 -- a server has a lost generation of this proxy and number whose end it has not seen
 pub record HasLost (proxy place generation : ℕ) (pool : PoolState) : Type 0 where
   pub site : SiteState
   pub at : slice_get pool.sites place ≡ Some site
   pub i : ℕ
-  pub first : way_of proxy generation site.lost ≡ Some i
+  pub first : lost_way proxy generation site.lost ≡ Some i
   pub way : StaleState
   pub way_at : slice_get site.lost i ≡ Some way
 

@@ -7,7 +7,7 @@ use Rattle.mc_world.specs.Applies.{IsUp}
 use Rattle.mc_world.specs.Drains.{AreDone}
 use Rattle.mc_world.specs.Homes.{Homes}
 use Rattle.mc_world.specs.WorldState.{PoolState, home_of, session_of}
-use Rattle.mc_world.specs.Worlds.{CourseState}
+use Rattle.mc_world.specs.Worlds.{CourseState, history_of, put_out_of}
 
 -- an event of a proxy that dies: one of its clients goes, or one of its links is lost
 abbrev pub is_of_restart : Homes → ℕ → Event (List ℕ) → Bool
@@ -29,3 +29,8 @@ HasNoClient proxy pool = (client : ℕ) → home_of pool client ≡ proxy → se
 pub record IsAnew (proxy : ℕ) (pool : PoolState) : Type 0 where
   pub clients : HasNoClient proxy pool
   pub links : (place : ℕ) → IsUp proxy place pool → ⊥
+
+-- what was emitted to each client, and what each server took, is as it was
+pub record Stands (old new : CourseState) : Type 0 where
+  pub emitted : (client : ℕ) → put_out_of new client ≡ put_out_of old client
+  pub histories : (place : ℕ) → history_of new place ≡ history_of old place

@@ -15,7 +15,7 @@ impl<S: Store + Drop> Site<S> {
     ghost use Rattle.mc_server.specs.Turns.{waiting_of};
     ghost use Rattle.mc_proxy.specs.SessionState.{link_at};
     ghost use Rattle.mc_proxy.specs.LinkTurns.{lost_at};
-    ghost use Rattle.mc_world.specs.Applies.{CanAdmit, way_of};
+    ghost use Rattle.mc_world.specs.Applies.{CanAdmit, lost_way};
     ghost use Rattle.mc_world.specs.Happens.{ArrivesLate, ComesBack, Does, Ends, EntersLate};
     ghost use Rattle.mc_world.specs.Pools.{cut_off};
     ghost use Rattle.mc_world.specs.Serving.{ServesProxy};
@@ -30,7 +30,7 @@ impl<S: Store + Drop> Site<S> {
 
     /// The index of a lost generation of a proxy among them: the first of this number.
     pub(crate) fn lost_way(&self, proxy: usize, generation: u64) -> Option<usize>
-        ensures { result ≡ way_of proxy generation self.now.lost }
+        ensures { result ≡ lost_way proxy generation self.now.lost }
     {
         self.lost.iter().position(|way| way.proxy() == proxy && way.generation() == generation)
     }

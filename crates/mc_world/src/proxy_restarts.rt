@@ -7,18 +7,35 @@ use crate::worlds::World;
 use mc_store::Store;
 
 impl<S: Store + Drop> World<S> {
+    ghost use Rattle.mc_world.specs.CourseHolds.{CourseHolds};
     ghost use Rattle.mc_world.specs.Courses.{CourseServes};
-    ghost use Rattle.mc_world.specs.ProxyRestarts.{HasNoClient, IsAnew, ProxyDies};
+    ghost use Rattle.mc_world.specs.ProxyRestarts.{HasNoClient, IsAnew, ProxyDies, Stands};
     ghost use Rattle.mc_world.specs.Steps.{GivesAccount, StepsTo};
+    ghost use Rattle.mc_world.specs.Worlds.{cache_of};
     ghost use Rattle.mc_world.specs.declared.events.Event.TheVariants.{ClientGone, LinkLost};
 
-    /// A proxy dies and begins anew: each of its clients goes, and each of its links that is up is lost. What the clients were answered
-    /// stands. They do not come back, so the clients that it serves from then on are those of another proxy of the world; its links
-    /// come back by [`Event::LinkBack`].
+    /// A proxy dies and begins anew: each of its clients goes, and each of its links that is up is lost. What was emitted to each client stands,
+    /// and what each server executed. Its clients do not come back, and it has none from then on: later clients are those of another proxy of the
+    /// world. Its links come back by [`Event::LinkBack`].
     ///
     /// The error is `NoProxy` if no proxy has this number: nothing has changed. At `Memory` some of these events were done: the world
     /// gives account, and the call can be made again.
     pub fn restart_proxy(&mut self, proxy: usize) -> Result<(), WorldError>
+        ensures dies { ProxyDies proxy self.old.course self.new.course }
+        ensures anew { OnOk result (IsAnew proxy self.new.course.pool) }
+        ensures stands { Stands self.old.course self.new.course }
+        ensures opened { (self.new.opening ≡ self.old.opening) × (self.new.budget ≡ self.old.budget) × (self.new.items ≡ self.old.items) × (self.new.losses ≡ self.old.losses) }
+        ensures account { GivesAccount self.new }
+        ensures no_proxy { IsErrOf result WorldError.NoProxy ↔ (length self.old.course.pool.proxies ≤ proxy) }
+        ensures unknown { IsErrOf result WorldError.NoProxy → self.new ≡ self.old }
+        ensures only { IfErr result (λ e. (e ≡ WorldError.NoProxy) ⊎ (e ≡ WorldError.Memory)) }
+    {
+        self.holds();
+        self.end_proxy(proxy)
+    }
+
+    /// A proxy dies, if there is one of this number.
+    fn end_proxy(&mut self, proxy: usize) -> Result<(), WorldError>
         ensures dies { ProxyDies proxy self.old.course self.new.course }
         ensures anew { OnOk result (IsAnew proxy self.new.course.pool) }
         ensures opened { (self.new.opening ≡ self.old.opening) × (self.new.budget ≡ self.old.budget) × (self.new.items ≡ self.old.items) × (self.new.losses ≡ self.old.losses) }
@@ -71,6 +88,13 @@ impl<S: Store + Drop> World<S> {
         self.gives_account();
         self.serves();
         Ok(())
+    }
+
+    /// The course of each world holds. The call does nothing: its contract is the law.
+    fn holds(&self)
+        ensures { CourseHolds self.now.opening (cache_of self.now) self.now.course }
+    {
+        let _ = self.course.log.len();
     }
 
     /// The servers of each world serve its proxies. The call does nothing: its contract is the law.

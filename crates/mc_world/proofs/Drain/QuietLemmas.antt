@@ -25,7 +25,7 @@ use Rattle.mc_account.specs.Holds.{SessionHolds, SessionHoldsAt}
 use Rattle.mc_account.proofs.LaneLemmas.{complete_order, up_is_there}
 use Rattle.mc_account.proofs.OpenSessions.{own_number}
 use Rattle.mc_account.proofs.OrderLemmas.{passes_parts, told_whole}
-use Rattle.mc_world.specs.Applies.{IsUp, is_way, way_of}
+use Rattle.mc_world.specs.Applies.{IsUp, is_way, lost_way}
 use Rattle.mc_world.specs.Courses.{Applies}
 use Rattle.mc_world.specs.CourseHolds.{CourseHolds}
 use Rattle.mc_world.specs.Homes.{of_proxy, own_of}
@@ -153,7 +153,7 @@ session_quiet ring opening c h stuck few client session at =
     record { output = no_output; answered = omega (arith, put, zero_left, numbered, size, all) }
 
 -- the first of some lost generations is the first of its proxy and number
-pub first_of_way : (way : StaleState) (ways : List StaleState) → way_of way.proxy way.generation (way ∷ ways) ≡ Some 0
+pub first_of_way : (way : StaleState) (ways : List StaleState) → lost_way way.proxy way.generation (way ∷ ways) ≡ Some 0
 first_of_way way ways =
     let own : is_way way.proxy way.generation way ≡ true = and_from (way.proxy == way.proxy) (way.generation == way.generation) (own_number way.proxy) (own_number way.generation) in
     let zeroth : position_or_len (is_way way.proxy way.generation) (way ∷ ways) ≡ 0 =
@@ -171,7 +171,7 @@ lost_none pool place site stuck at =
             site = site;
             at = at;
             i = 0;
-            first = ap (λ (ws : List StaleState). way_of way.proxy way.generation ws) e ∙ first_of_way way ways;
+            first = ap (λ (ws : List StaleState). lost_way way.proxy way.generation ws) e ∙ first_of_way way ways;
             way = way;
             way_at = ap (λ (ws : List StaleState). slice_get ws 0) e;
           }))

@@ -7,7 +7,7 @@ use Rattle.mc_proxy.specs.SessionState.{SessionState}
 use Rattle.mc_proxy.specs.ProxyState.{output_of as output_at}
 use Rattle.mc_account.proofs.LaneLemmas.{up_is_there}
 use Rattle.mc_world.specs.Acts.{IsRested, NoServer, coming_of, first_lost, generation_of, lost_generation, lost_proxy}
-use Rattle.mc_world.specs.Applies.{HasLost, IsUp, Lives, way_of}
+use Rattle.mc_world.specs.Applies.{HasLost, IsUp, Lives, lost_way}
 use Rattle.mc_world.specs.Courses.{Applies}
 use Rattle.mc_world.specs.CourseHolds.{CourseHolds}
 use Rattle.mc_world.specs.Logs.{Log, number_of, puts, takes}
@@ -39,7 +39,7 @@ lost_first pool place site way ways at is =
       site = site;
       at = at;
       i = 0;
-      first = ap (λ (ws : List StaleState). way_of way.proxy way.generation ws) is ∙ first_of_way way ways;
+      first = ap (λ (ws : List StaleState). lost_way way.proxy way.generation ws) is ∙ first_of_way way ways;
       way = way;
       way_at = ap (λ (ws : List StaleState). slice_get ws 0) is;
     })

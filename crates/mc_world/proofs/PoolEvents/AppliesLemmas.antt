@@ -31,7 +31,7 @@ use Rattle.mc_account.proofs.OpenSessions.{own_number}
 use Rattle.mc_server.specs.Turns.{waiting_of}
 use Rattle.mc_server.specs.declared.turns.ServerError.{ServerError}
 use Rattle.mc_server.specs.declared.turns.ServerError.TheVariants as reasons
-use Rattle.mc_world.specs.Applies.{CanServe, CanServeLate, CanTakeRequest, IsUp, Lives, is_way, way_of}
+use Rattle.mc_world.specs.Applies.{CanServe, CanServeLate, CanTakeRequest, IsUp, Lives, is_way, lost_way}
 use Rattle.mc_world.specs.Happens.{Arrives, ArrivesLate, ComesBack, Ends, EntersLate, returned}
 use Rattle.mc_world.specs.Pools.{EndSeen, LateBytes, LateTurn, LinkReturns, ReachesProxy, ReachesServer, relinked}
 use Rattle.mc_world.specs.Serving.{PoolServes}
@@ -197,7 +197,7 @@ pub record FoundWay (proxy generation : ℕ) (ways : List StaleState) (i : ℕ) 
 abbrev some_way : StaleState
 some_way = record { proxy = 0; generation = 0; connection = 0; going = []; untaken = [] }
 
-pub found_way : (proxy generation : ℕ) (ways : List StaleState) (i : ℕ) → way_of proxy generation ways ≡ Some i → FoundWay proxy generation ways i
+pub found_way : (proxy generation : ℕ) (ways : List StaleState) (i : ℕ) → lost_way proxy generation ways ≡ Some i → FoundWay proxy generation ways i
 found_way proxy generation ways i found =
     let facts = position-Some (is_way proxy generation) ways i some_way found in
     record {
@@ -273,11 +273,11 @@ served_late proxy place i moment generation homes proxies sites site now at foun
 )
 
 pub late_serves_if : (proxy place generation i : ℕ) (pool : PoolState) (site : SiteState) (way : StaleState) → slice_get pool.sites place ≡ Some site
-    → way_of proxy generation site.lost ≡ Some i → slice_get site.lost i ≡ Some way → CanServeLate proxy place generation pool
+    → lost_way proxy generation site.lost ≡ Some i → slice_get site.lost i ≡ Some way → CanServeLate proxy place generation pool
     → 0 < length (waiting_of (connection_at site.server way.connection))
 late_serves_if proxy place generation i pool site way at first way_at can =
     let same : can.there.site ≡ site = same_Some can.there.site site (sym can.there.at ∙ at) in
-    let place_is : can.there.i ≡ i = same_Some can.there.i i (sym can.there.first ∙ ap (λ (s : SiteState). way_of proxy generation s.lost) same ∙ first) in
+    let place_is : can.there.i ≡ i = same_Some can.there.i i (sym can.there.first ∙ ap (λ (s : SiteState). lost_way proxy generation s.lost) same ∙ first) in
     let way_is : can.there.way ≡ way = same_Some can.there.way way
     (sym can.there.way_at ∙ ap (λ (s : SiteState). slice_get s.lost can.there.i) same ∙ ap (λ (n : ℕ). slice_get site.lost n) place_is ∙ way_at) in
     subst (λ (w : StaleState). 0 < length (waiting_of (connection_at site.server w.connection))) way_is

@@ -8,7 +8,7 @@ use Rattle.std.proofs.lemmas.Option.{none-some, same_Some}
 use Rattle.mc_link.specs.LinkState.{can_come_back}
 use Rattle.mc_server.specs.ServerState.{connection_at, output_of}
 use Rattle.mc_server.specs.Turns.{waiting_of}
-use Rattle.mc_world.specs.Applies.{CanAdmit, CanReachLate, CanReachProxy, CanReturn, CanServe, CanServeLate, HasLost, IsUp, Lives, way_of}
+use Rattle.mc_world.specs.Applies.{CanAdmit, CanReachLate, CanReachProxy, CanReturn, CanServe, CanServeLate, HasLost, IsUp, Lives, lost_way}
 use Rattle.mc_world.specs.Courses.{ByWay}
 use Rattle.mc_world.specs.Refusals.{restart_refusal_of}
 use Rattle.mc_world.specs.WorldState.{PoolState, SiteState, StaleState, link_of, proxy_at, way_by}
@@ -20,21 +20,21 @@ pub lost_nowhere : (proxy place generation : ℕ) (pool : PoolState) → slice_g
 lost_nowhere proxy place generation pool none h = none-some h.site (sym none ∙ h.at)
 
 -- a server has not lost a generation whose way is not found
-pub lost_no_way : (proxy place generation : ℕ) (pool : PoolState) (site : SiteState) → slice_get pool.sites place ≡ Some site → None ≡ way_of proxy generation site.lost
+pub lost_no_way : (proxy place generation : ℕ) (pool : PoolState) (site : SiteState) → slice_get pool.sites place ≡ Some site → None ≡ lost_way proxy generation site.lost
     → HasLost proxy place generation pool → ⊥
 lost_no_way proxy place generation pool site at none h =
     let same : h.site ≡ site = same_Some h.site site (sym h.at ∙ at) in
-    none-some h.i (none ∙ ap (λ (s : SiteState). way_of proxy generation s.lost) (sym same) ∙ h.first)
+    none-some h.i (none ∙ ap (λ (s : SiteState). lost_way proxy generation s.lost) (sym same) ∙ h.first)
 
 -- a server has lost a generation whose way is found
-pub lost_here : (proxy place generation i : ℕ) (pool : PoolState) (site : SiteState) → slice_get pool.sites place ≡ Some site → Some i ≡ way_of proxy generation site.lost
+pub lost_here : (proxy place generation i : ℕ) (pool : PoolState) (site : SiteState) → slice_get pool.sites place ≡ Some site → Some i ≡ lost_way proxy generation site.lost
     → HasLost proxy place generation pool
 lost_here proxy place generation i pool site at found =
     let there = found_way proxy generation site.lost i (sym found) in
     record { site = site; at = at; i = i; first = sym found; way = there.way; way_at = there.at }
 
 pub lost_if : (proxy place generation : ℕ) (pool : PoolState) (site : SiteState) → slice_get pool.sites place ≡ Some site → (found : Option ℕ)
-    → found ≡ way_of proxy generation site.lost → IsTrue (is_some found) ↔ HasLost proxy place generation pool
+    → found ≡ lost_way proxy generation site.lost → IsTrue (is_some found) ↔ HasLost proxy place generation pool
 lost_if proxy place generation pool site at (Some i) is = (λ _. lost_here proxy place generation i pool site at is, λ _. refl)
 lost_if proxy place generation pool site at None is = (λ never. absurd cc, λ h. absurd (lost_no_way proxy place generation pool site at is h))
 
@@ -74,7 +74,7 @@ serves_living proxy place pool site at up b told = (
 
 -- a server takes a request of a lost generation
 pub serves_lost : (proxy place generation i : ℕ) (pool : PoolState) (site : SiteState) (way : StaleState) → slice_get pool.sites place ≡ Some site
-    → Some i ≡ way_of proxy generation site.lost → slice_get site.lost i ≡ Some way → (b : Bool) → IsTrue b ↔ (0 < length (waiting_of (connection_at site.server way.connection)))
+    → Some i ≡ lost_way proxy generation site.lost → slice_get site.lost i ≡ Some way → (b : Bool) → IsTrue b ↔ (0 < length (waiting_of (connection_at site.server way.connection)))
     → IsTrue b ↔ CanServeLate proxy place generation pool
 serves_lost proxy place generation i pool site way at found way_at b told = (
   λ is. record { there = record { site = site; at = at; i = i; first = sym found; way = way; way_at = way_at }; waits = told.0 is },
@@ -83,14 +83,14 @@ serves_lost proxy place generation i pool site way at found way_at b told = (
 
 -- bytes of a lost generation are on their way
 late_going : (proxy place generation i : ℕ) (pool : PoolState) (site : SiteState) (way : StaleState) → slice_get pool.sites place ≡ Some site
-    → Some i ≡ way_of proxy generation site.lost → slice_get site.lost i ≡ Some way → (there : HasLost proxy place generation pool) → there.way ≡ way
+    → Some i ≡ lost_way proxy generation site.lost → slice_get site.lost i ≡ Some way → (there : HasLost proxy place generation pool) → there.way ≡ way
 late_going proxy place generation i pool site way at found way_at there =
     let same : there.site ≡ site = same_Some there.site site (sym there.at ∙ at) in
-    let place_is : there.i ≡ i = same_Some there.i i (sym there.first ∙ ap (λ (s : SiteState). way_of proxy generation s.lost) same ∙ sym found) in
+    let place_is : there.i ≡ i = same_Some there.i i (sym there.first ∙ ap (λ (s : SiteState). lost_way proxy generation s.lost) same ∙ sym found) in
     same_Some there.way way (sym there.way_at ∙ ap (λ (s : SiteState). slice_get s.lost there.i) same ∙ ap (λ (n : ℕ). slice_get site.lost n) place_is ∙ way_at)
 
 pub reaches_lost : (proxy place generation i count : ℕ) (pool : PoolState) (site : SiteState) (way : StaleState) → slice_get pool.sites place ≡ Some site
-    → Some i ≡ way_of proxy generation site.lost → slice_get site.lost i ≡ Some way → 0 < count → (b : Bool) → IsTrue b ↔ (0 < length way.going)
+    → Some i ≡ lost_way proxy generation site.lost → slice_get site.lost i ≡ Some way → 0 < count → (b : Bool) → IsTrue b ↔ (0 < length way.going)
     → IsTrue b ↔ CanReachLate proxy place generation count pool
 reaches_lost proxy place generation i count pool site way at found way_at some b told = (
   λ is. record { there = record { site = site; at = at; i = i; first = sym found; way = way; way_at = way_at }; moves = (some, told.0 is) },

@@ -1,7 +1,7 @@
 use Rattle.std.proofs.Common.{rules, ◌≡◌, ◌∙◌, ◌<◌, false, List, Some, None, length, slice_get, refl, sym, ap, subst}
 use Rattle.std.specs.Prelude.{◌↔◌, IsTrue, not}
 use Rattle.std.proofs.lemmas.Option.{slice_get_past, slice_get_read}
-use Rattle.mc_world.specs.Applies.{CanReachLate, Lives, way_of}
+use Rattle.mc_world.specs.Applies.{CanReachLate, Lives, lost_way}
 use Rattle.mc_world.specs.WorldState.{SiteState, StaleState}
 use Rattle.mc_world.proofs.PoolEvents.AppliesLemmas.{found_way, pool_of}
 use Rattle.mc_world.proofs.PoolEvents.ApplyingLemmas.{by_late, by_nowhere, lost_no_way, never, not_so, reaches_lost, some_if}
@@ -24,7 +24,7 @@ returns-in-Some-lost_way g c =
     let pool = pool_of c.self.inside.homes.items c.self.inside.proxies c.self.inside.sites.items in
     let never_lives : Lives c.args.proxy c.args.place c.args.generation pool → ⊥ =
     rw (← c.self.view_is) at (not_so {P = Lives c.args.proxy c.args.place c.args.generation c.args.self.now} c.lives.result c.if-lives.false c.lives.ensures.1) in
-    let found : Some c.in-Some-lost_way.i ≡ way_of c.args.proxy c.args.generation c.in-Some.site.now.lost = sym c.in-Some-lost_way.is ∙ c.lost_way.ensures in
+    let found : Some c.in-Some-lost_way.i ≡ lost_way c.args.proxy c.args.generation c.in-Some.site.now.lost = sym c.in-Some-lost_way.is ∙ c.lost_way.ensures in
     let inside = (found_way c.args.proxy c.args.generation c.in-Some.site.now.lost c.in-Some-lost_way.i (sym found)).inside in
     let lost : c.lost.result.now ≡ c.in-Some.site.now.lost = c.lost.ensures in
     let way_at : slice_get c.in-Some.site.now.lost c.in-Some-lost_way.i ≡ Some c.index-lost-i.result =
@@ -44,5 +44,5 @@ returns-in-None g c =
     let pool = pool_of c.self.inside.homes.items c.self.inside.proxies c.self.inside.sites.items in
     let never_lives : Lives c.args.proxy c.args.place c.args.generation pool → ⊥ =
     rw (← c.self.view_is) at (not_so {P = Lives c.args.proxy c.args.place c.args.generation c.args.self.now} c.lives.result c.if-lives.false c.lives.ensures.1) in
-    let none : None ≡ way_of c.args.proxy c.args.generation c.in-Some.site.now.lost = sym c.in-None.is ∙ c.lost_way.ensures in
+    let none : None ≡ lost_way c.args.proxy c.args.generation c.in-Some.site.now.lost = sym c.in-None.is ∙ c.lost_way.ensures in
     rw (← c.self.view_is) (λ count asked. by_late c.args.proxy c.args.place c.args.generation pool _ _ false never_lives (never _ (λ late. lost_no_way c.args.proxy c.args.place c.args.generation pool c.in-Some.site.now at none late.there)))

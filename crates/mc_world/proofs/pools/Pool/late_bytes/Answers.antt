@@ -1,7 +1,7 @@
 use Rattle.std.proofs.Common.{rules, ◌≡◌, ◌∙◌, ◌<◌, ℕ, List, Some, length, slice_get, refl, sym, ap, subst, arith}
 use Rattle.std.proofs.lemmas.Option.{same_Some, slice_get_read}
 use Rattle.mc_world.specs.WorldState.{StaleState}
-use Rattle.mc_world.specs.Applies.{way_of}
+use Rattle.mc_world.specs.Applies.{lost_way}
 use Rattle.mc_world.proofs.PoolEvents.AppliesLemmas.{at_error, found_way, it_applies, reached_late}
 use Rattle.mc_world.proofs.pools.Pool.late_bytes.Goals as goal
 
@@ -10,7 +10,7 @@ arrive_late-requires g c =
     let inside = c.in-Some.ensures.variant.0 refl in
     let kept = c.self.inside.sites.ok in
     let at : slice_get c.self.inside.sites.items c.args.place ≡ Some c.in-Some.site.now = slice_get_read _ _ c.args.place c.in-Some.site.now refl (omega (arith, inside, kept)) (search rules) in
-    let first : way_of c.args.proxy c.args.generation c.in-Some.site.now.lost ≡ Some c.in-Some-lost_way.i = sym c.lost_way.ensures ∙ c.in-Some-lost_way.is in
+    let first : lost_way c.args.proxy c.args.generation c.in-Some.site.now.lost ≡ Some c.in-Some-lost_way.i = sym c.lost_way.ensures ∙ c.in-Some-lost_way.is in
     let found = found_way c.args.proxy c.args.generation c.in-Some.site.now.lost c.in-Some-lost_way.i first in
     found.inside
 
@@ -19,7 +19,7 @@ returns-clause-reaches g c =
     let inside = c.in-Some.ensures.variant.0 refl in
     let kept = c.self.inside.sites.ok in
     let at : slice_get c.self.inside.sites.items c.args.place ≡ Some c.in-Some.site.now = slice_get_read _ _ c.args.place c.in-Some.site.now refl (omega (arith, inside, kept)) (search rules) in
-    let first : way_of c.args.proxy c.args.generation c.in-Some.site.now.lost ≡ Some c.in-Some-lost_way.i = sym c.lost_way.ensures ∙ c.in-Some-lost_way.is in
+    let first : lost_way c.args.proxy c.args.generation c.in-Some.site.now.lost ≡ Some c.in-Some-lost_way.i = sym c.lost_way.ensures ∙ c.in-Some-lost_way.is in
     let found = found_way c.args.proxy c.args.generation c.in-Some.site.now.lost c.in-Some-lost_way.i first in
     rw (← c.self.view_is)
     (reached_late c.args.proxy c.args.place c.in-Some-lost_way.i c.args.count c.args.generation c.self.inside.homes.items c.self.inside.proxies c.self.inside.sites.items c.in-Some.site.now c.arrive_late.new.self at found (search rules))
@@ -29,7 +29,7 @@ returns-clause-applies g c =
     let inside = c.in-Some.ensures.variant.0 refl in
     let kept = c.self.inside.sites.ok in
     let at : slice_get c.self.inside.sites.items c.args.place ≡ Some c.in-Some.site.now = slice_get_read _ _ c.args.place c.in-Some.site.now refl (omega (arith, inside, kept)) (search rules) in
-    let first : way_of c.args.proxy c.args.generation c.in-Some.site.now.lost ≡ Some c.in-Some-lost_way.i = sym c.lost_way.ensures ∙ c.in-Some-lost_way.is in
+    let first : lost_way c.args.proxy c.args.generation c.in-Some.site.now.lost ≡ Some c.in-Some-lost_way.i = sym c.lost_way.ensures ∙ c.in-Some-lost_way.is in
     let found = found_way c.args.proxy c.args.generation c.in-Some.site.now.lost c.in-Some-lost_way.i first in
     let lost : c.lost.result.now ≡ c.in-Some.site.now.lost = c.lost.ensures in
     let there : slice_get c.lost.result.now c.in-Some-lost_way.i ≡ Some c.index-lost-i.result =
@@ -47,7 +47,7 @@ returns-in_err-arrive_late-clause-err_applies g c =
     let inside = c.in-Some.ensures.variant.0 refl in
     let kept = c.self.inside.sites.ok in
     let at : slice_get c.self.inside.sites.items c.args.place ≡ Some c.in-Some.site.now = slice_get_read _ _ c.args.place c.in-Some.site.now refl (omega (arith, inside, kept)) (search rules) in
-    let first : way_of c.args.proxy c.args.generation c.in-Some.site.now.lost ≡ Some c.in-Some-lost_way.i = sym c.lost_way.ensures ∙ c.in-Some-lost_way.is in
+    let first : lost_way c.args.proxy c.args.generation c.in-Some.site.now.lost ≡ Some c.in-Some-lost_way.i = sym c.lost_way.ensures ∙ c.in-Some-lost_way.is in
     let found = found_way c.args.proxy c.args.generation c.in-Some.site.now.lost c.in-Some-lost_way.i first in
     let lost : c.lost.result.now ≡ c.in-Some.site.now.lost = c.lost.ensures in
     let there : slice_get c.lost.result.now c.in-Some-lost_way.i ≡ Some c.index-lost-i.result =

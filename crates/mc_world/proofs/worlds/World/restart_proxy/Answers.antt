@@ -1,8 +1,8 @@
-use Rattle.mc_world.proofs.Drain.EndLemmas.{dies_then}
+use Rattle.mc_world.specs.Worlds.{cache_of}
+use Rattle.mc_world.proofs.Drain.StandLemmas.{dying_stands}
 use Rattle.mc_world.proofs.worlds.World.restart_proxy.Goals as goal
 
--- its clients go, and then its links are lost
-pub returns-clause-dies : goal.returns-clause-dies
-returns-clause-dies g c =
-    dies_then c.args.proxy c.args.self.now.course c.lose_clients.new.self.course c.lose_links.new.self.course c.in_ok-lose_clients.ensures.dies c.in_ok-lose_clients.ensures.homes
-    c.lose_links.ensures.dies
+-- the events of a proxy that dies change neither
+pub returns-clause-stands : goal.returns-clause-stands
+returns-clause-stands g c =
+    dying_stands c.args.self.now.opening (cache_of c.args.self.now) c.args.proxy c.args.self.now.course c.end_proxy.new.self.course c.holds.ensures c.end_proxy.ensures.dies
