@@ -7,6 +7,7 @@ use crate::keys::{Stock, append_key, append_number, by_rank, small_len};
 use crate::pool::{address, ring_of};
 use crate::randoms::Random;
 use crate::served::Served;
+use mc_ring::Ring;
 use mc_text::{CODED_LIMIT, KEY_LIMIT, write_coded};
 use std::alloc::{AllocError, Global};
 
@@ -39,29 +40,86 @@ const OVER_MANY: u64 = 700_000;
 /// How many rings of 64 servers are made.
 const RINGS: u64 = 250;
 
-/// Plays each part in turn: the least and the most that a server or a ring gets.
+/// A load that a server seldom gets.
+#[derive(Clone, Copy)]
+enum Load {
+    InPieces,
+    LongGets,
+    Coded,
+    Misses,
+    Evictions,
+    Flushes,
+    OverMany,
+}
+
+/// All loads of a server, in the order in which they are played.
+const LOADS: [Load; 7] = [
+    Load::InPieces,
+    Load::LongGets,
+    Load::Coded,
+    Load::Misses,
+    Load::Evictions,
+    Load::Flushes,
+    Load::OverMany,
+];
+
+/// Plays each load in turn, and then rings: the least and the most that a server or a ring gets.
 pub fn play(alloc: Global, random: Random, parts: u64) -> Result<Played, JobError> {
     let parts = parts.max(1);
     let mut random = random;
     let mut all = Digest::new();
     let stock = Stock::new(alloc, &mut random)?;
-    let digests = [
-        in_pieces(alloc, &mut random, &stock, IN_PIECES / parts)?,
-        long_gets(alloc, &mut random, &stock, LONG_GETS / parts)?,
-        coded(alloc, &mut random, CODED / parts)?,
-        misses(alloc, &mut random, MISSES / parts)?,
-        evictions(alloc, &mut random, &stock, EVICTIONS / parts)?,
-        flushes(alloc, &mut random, &stock, FLUSHES / parts)?,
-        over_many(alloc, &mut random, &stock, OVER_MANY / parts)?,
-        rings(alloc, &mut random, RINGS / parts)?,
-    ];
-    for digest in digests {
+    for load in LOADS {
+        let digest = play_load(alloc, &mut random, &stock, load, parts)?;
         all.add(&digest.value().to_le_bytes());
     }
+    let digest = rings(alloc, &mut random, RINGS / parts)?;
+    all.add(&digest.value().to_le_bytes());
     Ok(Played {
         asked: (IN_PIECES + CODED + MISSES + OVER_MANY) / parts,
         digest: all.value(),
     })
+}
+
+/// Plays a load on a server of its own.
+fn play_load(
+    alloc: Global,
+    random: &mut Random,
+    stock: &Stock,
+    load: Load,
+    parts: u64,
+) -> Result<Digest, JobError> {
+    let (budget, items, connections) = match load {
+        Load::Misses => (BUDGET, 300_000, 1),
+        Load::Evictions => (1_100_000, 20_000, 1),
+        Load::OverMany => (BUDGET, 20_000, 1_000),
+        _ => (BUDGET, 20_000, 1),
+    };
+    let mut text = Vec::new(alloc);
+    let mut served = Served::new(alloc, budget, items, connections)?;
+    play_on(&mut served, random, stock, &mut text, load, parts)?;
+    Ok(served.digest)
+}
+
+/// Plays a load on this server.
+fn play_on(
+    served: &mut Served,
+    random: &mut Random,
+    stock: &Stock,
+    text: &mut Vec<u8>,
+    load: Load,
+    parts: u64,
+) -> Result<(), JobError> {
+    let parts = parts.max(1);
+    match load {
+        Load::InPieces => in_pieces(served, random, stock, text, IN_PIECES / parts),
+        Load::LongGets => long_gets(served, random, stock, text, LONG_GETS / parts),
+        Load::Coded => coded(served, random, text, CODED / parts),
+        Load::Misses => misses(served, random, text, MISSES / parts),
+        Load::Evictions => evictions(served, random, stock, text, EVICTIONS / parts),
+        Load::Flushes => flushes(served, random, stock, text, FLUSHES / parts),
+        Load::OverMany => over_many(served, random, stock, text, OVER_MANY / parts),
+    }
 }
 
 fn append_get(random: &mut Random, text: &mut Vec<u8>, keys: u64) -> Result<(), AllocError> {
@@ -106,38 +164,36 @@ fn append_request(
 
 /// Small requests, one byte at a time, and seven at a time.
 fn in_pieces(
-    alloc: Global,
+    served: &mut Served,
     random: &mut Random,
     stock: &Stock,
+    text: &mut Vec<u8>,
     count: u64,
-) -> Result<Digest, JobError> {
-    let mut served = Served::new(alloc, BUDGET, 20_000, 1)?;
-    let mut text = Vec::new(alloc);
+) -> Result<(), JobError> {
     for number in 0..count {
         text.clear();
-        append_request(random, stock, &mut text)?;
+        append_request(random, stock, text)?;
         let piece = if number % 2 == 0 { 1 } else { 7 };
         served.hear_in_pieces(0, text.as_slice(), piece)?;
     }
-    Ok(served.digest)
+    Ok(())
 }
 
 /// Gets of 1,300 keys, after as many sets as there are keys.
 fn long_gets(
-    alloc: Global,
+    served: &mut Served,
     random: &mut Random,
     stock: &Stock,
+    text: &mut Vec<u8>,
     count: u64,
-) -> Result<Digest, JobError> {
-    let mut served = Served::new(alloc, BUDGET, 20_000, 1)?;
-    let mut text = Vec::new(alloc);
-    fill(&mut served, random, stock, &mut text, 1 << KEY_BITS)?;
+) -> Result<(), JobError> {
+    fill(served, random, stock, text, 1 << KEY_BITS)?;
     for _ in 0..count {
         text.clear();
-        append_get(random, &mut text, 1_300)?;
+        append_get(random, text, 1_300)?;
         served.hear(0, text.as_slice())?;
     }
-    Ok(served.digest)
+    Ok(())
 }
 
 /// Sets this number of keys.
@@ -158,18 +214,20 @@ fn fill(
 }
 
 /// `mg` and `ms` of keys of 250 bytes in base64, eight requests a piece.
-fn coded(alloc: Global, random: &mut Random, count: u64) -> Result<Digest, JobError> {
-    let mut served = Served::new(alloc, BUDGET, 20_000, 1)?;
-    let mut text = Vec::new(alloc);
+fn coded(
+    served: &mut Served,
+    random: &mut Random,
+    text: &mut Vec<u8>,
+    count: u64,
+) -> Result<(), JobError> {
     for number in 0..count {
-        append_coded(random, &mut text)?;
+        append_coded(random, text)?;
         if number % 8 == 7 {
             served.hear(0, text.as_slice())?;
             text.clear();
         }
     }
-    served.hear(0, text.as_slice())?;
-    Ok(served.digest)
+    served.hear(0, text.as_slice())
 }
 
 /// Appends a meta command whose key's bytes are a number, and spaces after it.
@@ -193,72 +251,71 @@ fn append_coded(random: &mut Random, text: &mut Vec<u8>) -> Result<(), AllocErro
 }
 
 /// Gets of keys that are missing, 16 a piece.
-fn misses(alloc: Global, random: &mut Random, count: u64) -> Result<Digest, JobError> {
-    let mut served = Served::new(alloc, BUDGET, 300_000, 1)?;
-    let mut text = Vec::new(alloc);
+fn misses(
+    served: &mut Served,
+    random: &mut Random,
+    text: &mut Vec<u8>,
+    count: u64,
+) -> Result<(), JobError> {
     for number in 0..count {
-        append_get(random, &mut text, 1)?;
+        append_get(random, text, 1)?;
         if number % 16 == 15 {
             served.hear(0, text.as_slice())?;
             text.clear();
         }
     }
-    served.hear(0, text.as_slice())?;
-    Ok(served.digest)
+    served.hear(0, text.as_slice())
 }
 
 /// Thousands of small values, and then a large one that evicts them.
 fn evictions(
-    alloc: Global,
+    served: &mut Served,
     random: &mut Random,
     stock: &Stock,
+    text: &mut Vec<u8>,
     count: u64,
-) -> Result<Digest, JobError> {
-    let mut served = Served::new(alloc, 1_100_000, 20_000, 1)?;
-    let mut text = Vec::new(alloc);
+) -> Result<(), JobError> {
     for _ in 0..count {
-        fill(&mut served, random, stock, &mut text, 4_000)?;
+        fill(served, random, stock, text, 4_000)?;
         text.clear();
-        append_set(random, stock, &mut text, 0, 500_000)?;
-        append_set(random, stock, &mut text, 1, 500_000)?;
+        append_set(random, stock, text, 0, 500_000)?;
+        append_set(random, stock, text, 1, 500_000)?;
         served.hear(0, text.as_slice())?;
     }
-    Ok(served.digest)
+    Ok(())
 }
 
 /// A full cache is flushed, and filled again.
 fn flushes(
-    alloc: Global,
+    served: &mut Served,
     random: &mut Random,
     stock: &Stock,
+    text: &mut Vec<u8>,
     count: u64,
-) -> Result<Digest, JobError> {
-    let mut served = Served::new(alloc, BUDGET, 20_000, 1)?;
-    let mut text = Vec::new(alloc);
+) -> Result<(), JobError> {
     for _ in 0..count {
-        fill(&mut served, random, stock, &mut text, 1 << KEY_BITS)?;
+        fill(served, random, stock, text, 1 << KEY_BITS)?;
         served.moment = served.moment.saturating_add(1);
         served.hear(0, b"flush_all\r\n")?;
     }
-    Ok(served.digest)
+    Ok(())
 }
 
 /// Requests one at a time, over 1,000 connections of which a few speak often.
 fn over_many(
-    alloc: Global,
+    served: &mut Served,
     random: &mut Random,
     stock: &Stock,
+    text: &mut Vec<u8>,
     count: u64,
-) -> Result<Digest, JobError> {
-    let mut served = Served::new(alloc, BUDGET, 20_000, 1_000)?;
-    let mut text = Vec::new(alloc);
+) -> Result<(), JobError> {
     for _ in 0..count {
         text.clear();
-        append_request(random, stock, &mut text)?;
+        append_request(random, stock, text)?;
         let client = random.ranked(10) % 1_000;
         served.hear(client, text.as_slice())?;
     }
-    Ok(served.digest)
+    Ok(())
 }
 
 /// Rings of 63 servers, each of which one more joins, and the owners of some keys.
@@ -266,11 +323,7 @@ fn rings(alloc: Global, random: &mut Random, count: u64) -> Result<Digest, JobEr
     let mut digest = Digest::new();
     let mut key = Vec::new(alloc);
     for number in 0..count {
-        let first = random.below(60_000);
-        let ring = ring_of(alloc, 63, first)?;
-        let joined = ring
-            .with_server(alloc, address(alloc, first.wrapping_add(63))?)
-            .map_err(|_| JobError::Refused)?;
+        let joined = joined_ring(alloc, random.below(60_000))?;
         for place in 0..16 {
             key.clear();
             append_key(&mut key, number.wrapping_mul(16).wrapping_add(place))?;
@@ -279,4 +332,10 @@ fn rings(alloc: Global, random: &mut Random, count: u64) -> Result<Digest, JobEr
         }
     }
     Ok(digest)
+}
+
+/// A ring of 63 servers from a first one on, which the next one has joined.
+fn joined_ring(alloc: Global, first: u64) -> Result<Ring, JobError> {
+    let ring = ring_of(alloc, 63, first)?;
+    Ok(ring.with_server(alloc, address(alloc, first.wrapping_add(63))?)?)
 }

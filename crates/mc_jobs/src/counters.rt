@@ -26,27 +26,34 @@ const BATCHES_A_SECOND: u64 = 1_000;
 /// Makes all counters, and then plays batches of small commands.
 pub fn play(alloc: Global, random: Random, parts: u64) -> Result<Played, JobError> {
     let mut random = random;
-    let mut served = Served::new(alloc, BUDGET, ITEMS, CLIENTS)?;
-    let stock = Stock::new(alloc, &mut random)?;
     let mut text = Vec::new(alloc);
-    let mut asked = fill(&mut served, &mut text, parts)?;
+    let stock = Stock::new(alloc, &mut random)?;
+    let mut served = Served::new(alloc, BUDGET, ITEMS, CLIENTS)?;
+    let filled = fill(&mut served, &mut text, parts)?;
+    let asked = play_batches(&mut served, &mut random, &stock, &mut text, parts)?;
+    Ok(Played {
+        asked: filled.saturating_add(asked),
+        digest: served.digest.value(),
+    })
+}
+
+/// Plays all batches, and returns the number of their requests.
+fn play_batches(
+    served: &mut Served,
+    random: &mut Random,
+    stock: &Stock,
+    text: &mut Vec<u8>,
+    parts: u64,
+) -> Result<u64, JobError> {
+    let mut asked = 0u64;
     for batch in 0..BATCHES / parts.max(1) {
         let client = random.below(CLIENTS);
-        asked = asked.saturating_add(play_batch(
-            &mut served,
-            &mut random,
-            &stock,
-            client,
-            &mut text,
-        )?);
+        asked = asked.saturating_add(play_batch(served, random, stock, client, text)?);
         if batch % BATCHES_A_SECOND == 0 {
             served.moment = served.moment.saturating_add(1);
         }
     }
-    Ok(Played {
-        asked,
-        digest: served.digest.value(),
-    })
+    Ok(asked)
 }
 
 /// Makes the counters, and returns their number.

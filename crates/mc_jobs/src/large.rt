@@ -28,29 +28,38 @@ const PACKET: usize = 1_448;
 
 /// Plays gets and sets, three gets to a set. One client in four sends its bytes by packets.
 pub fn play(alloc: Global, mut random: Random, parts: u64) -> Result<Played, JobError> {
-    let mut served = Served::new(alloc, BUDGET, ITEMS, CLIENTS)?;
-    let mut stock = Stock::new(alloc, &mut random)?;
     let mut line = Vec::new(alloc);
+    let mut stock = Stock::new(alloc, &mut random)?;
+    let mut served = Served::new(alloc, BUDGET, ITEMS, CLIENTS)?;
     let asked = REQUESTS / parts.max(1);
     for _ in 0..asked {
-        let client = random.below(CLIENTS);
-        let piece = if client % 4 == 0 { PACKET } else { PIECE };
-        let key = by_rank(random.ranked(KEY_BITS), KEY_BITS);
-        line.clear();
-        if random.one_in(4) {
-            let len = large_len(&mut random);
-            append_set_line(&mut line, key, len)?;
-            let text = stock.framed(&mut random, line.as_slice(), len);
-            served.hear_in_pieces(client, text, piece)?;
-        } else {
-            append_get(&mut line, key)?;
-            served.hear(client, line.as_slice())?;
-        }
+        play_request(&mut served, &mut random, &mut stock, &mut line)?;
     }
     Ok(Played {
         asked,
         digest: served.digest.value(),
     })
+}
+
+/// Plays a get or a set of a client.
+fn play_request(
+    served: &mut Served,
+    random: &mut Random,
+    stock: &mut Stock,
+    line: &mut Vec<u8>,
+) -> Result<(), JobError> {
+    let client = random.below(CLIENTS);
+    let piece = if client % 4 == 0 { PACKET } else { PIECE };
+    let key = by_rank(random.ranked(KEY_BITS), KEY_BITS);
+    line.clear();
+    if !random.one_in(4) {
+        append_get(line, key)?;
+        return served.hear(client, line.as_slice());
+    }
+    let len = large_len(random);
+    append_set_line(line, key, len)?;
+    let text = stock.framed(random, line.as_slice(), len);
+    served.hear_in_pieces(client, text, piece)
 }
 
 fn append_get(line: &mut Vec<u8>, key: u64) -> Result<(), AllocError> {

@@ -25,23 +25,36 @@ const BATCHES_A_SECOND: u64 = 500;
 
 /// Fills a server, and then plays gets and sets of its clients, nine gets to a set, whose keys follow Zipf's law.
 pub fn play(alloc: Global, mut random: Random, parts: u64) -> Result<Played, JobError> {
-    let mut served = Served::new(alloc, BUDGET, ITEMS, CLIENTS)?;
-    let stock = Stock::new(alloc, &mut random)?;
     let mut text = Vec::new(alloc);
-    let mut asked = fill(&mut served, &mut random, &stock, &mut text, parts)?;
+    let stock = Stock::new(alloc, &mut random)?;
+    let mut served = Served::new(alloc, BUDGET, ITEMS, CLIENTS)?;
+    let filled = fill(&mut served, &mut random, &stock, &mut text, parts)?;
+    let asked = play_batches(&mut served, &mut random, &stock, &mut text, parts)?;
+    Ok(Played {
+        asked: filled.saturating_add(asked),
+        digest: served.digest.value(),
+    })
+}
+
+/// Plays all batches, and returns the number of their requests.
+fn play_batches(
+    served: &mut Served,
+    random: &mut Random,
+    stock: &Stock,
+    text: &mut Vec<u8>,
+    parts: u64,
+) -> Result<u64, JobError> {
+    let mut asked = 0u64;
     for batch in 0..BATCHES / parts.max(1) {
         text.clear();
-        asked = asked.saturating_add(append_batch(&mut random, &stock, &mut text)?);
+        asked = asked.saturating_add(append_batch(random, stock, text)?);
         let client = random.below(CLIENTS);
-        send(&mut served, &mut random, client, text.as_slice())?;
+        send(served, random, client, text.as_slice())?;
         if batch % BATCHES_A_SECOND == 0 {
             served.moment = served.moment.saturating_add(1);
         }
     }
-    Ok(Played {
-        asked,
-        digest: served.digest.value(),
-    })
+    Ok(asked)
 }
 
 /// Sets as many keys as the server stores, in pieces of some 50 sets, and returns their number.

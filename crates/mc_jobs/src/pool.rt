@@ -46,25 +46,13 @@ struct Pool {
 /// Plays rounds of requests. At times a link is lost, with the bytes in flight.
 pub fn play(alloc: Global, random: Random, parts: u64) -> Result<Played, JobError> {
     let mut random = random;
-    let mut pool = Pool::new(alloc)?;
-    let stock = Stock::new(alloc, &mut random)?;
     let mut text = Vec::new(alloc);
+    let stock = Stock::new(alloc, &mut random)?;
+    let mut pool = Pool::new(alloc)?;
     let mut asked = 0u64;
     for round in 1..=ROUNDS / parts.max(1) {
-        let first = random.below(CLIENTS);
-        let count = random.below(AT_ONCE).saturating_add(1);
-        for next in 0..count {
-            text.clear();
-            asked = asked.saturating_add(append_batch(&mut random, &stock, &mut text)?);
-            pool.ask(first.wrapping_add(next) % CLIENTS, text.as_slice())?;
-        }
-        if round % ROUNDS_A_LOSS == 0 {
-            pool.lose(random.below(SERVERS) as usize)?;
-        }
-        pool.carry_all()?;
-        for next in 0..count {
-            pool.answer(first.wrapping_add(next) % CLIENTS)?;
-        }
+        let more = pool.play_round(&mut random, &stock, &mut text, round)?;
+        asked = asked.saturating_add(more);
     }
     Ok(Played {
         asked,
@@ -78,54 +66,84 @@ pub fn ring_of(alloc: Global, servers: u64, first: u64) -> Result<Ring, JobError
     for number in 0..servers {
         addresses.push(address(alloc, first.wrapping_add(number))?)?;
     }
-    Ring::new(alloc, addresses.as_slice()).map_err(|_| JobError::Refused)
+    Ok(Ring::new(alloc, addresses.as_slice())?)
 }
 
 /// The address of a number.
 pub fn address(alloc: Global, number: u64) -> Result<Address, JobError> {
     let text = format!(in alloc; "10.{}.0.{}:11211", number / 256 % 256, number % 256)?;
-    Address::new(alloc, text.as_bytes()).map_err(|_| JobError::Refused)
+    Ok(Address::new(alloc, text.as_bytes())?)
 }
 
 impl Pool {
     fn new(alloc: Global) -> Result<Pool, JobError> {
         let ring = ring_of(alloc, SERVERS, 0)?;
+        let Ok(proxy) = Proxy::new(alloc, ring) else {
+            return Err(JobError::Memory);
+        };
         let mut pool = Pool {
-            proxy: Proxy::new(alloc, ring).map_err(|_| JobError::Memory)?,
+            proxy,
             servers: Vec::new(alloc),
             connections: Vec::new(alloc),
             moment: 1_000,
             digest: Digest::new(),
         };
-        for place in 0..SERVERS {
-            pool.open(alloc, place as usize)?;
-        }
-        for _ in 0..CLIENTS {
-            pool.proxy.admit().map_err(|_| JobError::Refused)?;
-        }
+        pool.open_all(alloc)?;
         Ok(pool)
     }
 
-    /// Opens the server of a place, and its link.
-    fn open(&mut self, alloc: Global, place: usize) -> Result<(), JobError> {
-        let mut server = opened(alloc, BUDGET, ITEMS)?;
-        let connection = server.admit().map_err(|_| JobError::Refused)?;
-        self.servers.push(server)?;
-        self.connections.push(connection)?;
-        self.proxy.back(place).map_err(|_| JobError::Refused)?;
+    /// Opens all servers and their links, and admits all clients.
+    fn open_all(&mut self, alloc: Global) -> Result<(), JobError> {
+        for place in 0..SERVERS {
+            self.open(alloc)?;
+            self.proxy.back(place as usize)?;
+        }
+        for _ in 0..CLIENTS {
+            self.proxy.admit()?;
+        }
         Ok(())
+    }
+
+    /// Opens the next server, with the connection of its link.
+    fn open(&mut self, alloc: Global) -> Result<(), JobError> {
+        let mut server = opened(alloc, BUDGET, ITEMS)?;
+        self.connections.push(server.admit()?)?;
+        self.servers.push(server)?;
+        Ok(())
+    }
+
+    /// Plays a round, and returns the number of its requests.
+    fn play_round(
+        &mut self,
+        random: &mut Random,
+        stock: &Stock,
+        text: &mut Vec<u8>,
+        round: u64,
+    ) -> Result<u64, JobError> {
+        let first = random.below(CLIENTS);
+        let count = random.below(AT_ONCE).saturating_add(1);
+        let mut asked = 0u64;
+        for next in 0..count {
+            text.clear();
+            asked = asked.saturating_add(append_batch(random, stock, text)?);
+            self.ask(first.wrapping_add(next) % CLIENTS, text.as_slice())?;
+        }
+        if round % ROUNDS_A_LOSS == 0 {
+            self.lose(random.below(SERVERS) as usize)?;
+        }
+        self.carry_all()?;
+        for next in 0..count {
+            self.answer(first.wrapping_add(next) % CLIENTS)?;
+        }
+        Ok(asked)
     }
 
     /// Feeds a client's text, and takes all its requests.
     fn ask(&mut self, client: u64, text: &[u8]) -> Result<(), JobError> {
-        self.proxy
-            .feed(client, text)
-            .map_err(|_| JobError::Refused)?;
+        self.proxy.feed(client, text)?;
         for _ in 0..u64::MAX {
-            match self.proxy.turn(client) {
-                Ok(SessionTurn::Took) => {}
-                Ok(_) => break,
-                Err(_) => return Err(JobError::Refused),
+            if self.proxy.turn(client)? != SessionTurn::Took {
+                break;
             }
         }
         Ok(())
@@ -150,16 +168,12 @@ impl Pool {
         };
         let sent = self.proxy.link_output(place);
         let count = sent.len();
-        server
-            .feed(*connection, sent)
-            .map_err(|_| JobError::Refused)?;
+        server.feed(*connection, sent)?;
         self.proxy.link_taken_out(place, count);
         turn_all(server, *connection, self.moment)?;
         let replied = server.output(*connection);
         let count = replied.len();
-        self.proxy
-            .link_feed(place, replied)
-            .map_err(|_| JobError::Refused)?;
+        self.proxy.link_feed(place, replied)?;
         server.taken_out(*connection, count);
         Ok(())
     }
@@ -167,10 +181,10 @@ impl Pool {
     /// Takes all replies of the server of a place.
     fn take_replies(&mut self, place: usize) -> Result<(), JobError> {
         for _ in 0..u64::MAX {
-            match self.proxy.link_turn(place) {
-                Ok(LinkStep::Took) => {}
-                Ok(LinkStep::Idle) => break,
-                Ok(LinkStep::Strange) | Err(_) => return Err(JobError::Refused),
+            match self.proxy.link_turn(place)? {
+                LinkStep::Took => {}
+                LinkStep::Idle => break,
+                LinkStep::Strange => return Err(JobError::Refused),
             }
         }
         Ok(())
@@ -179,10 +193,8 @@ impl Pool {
     /// Answers a client as far as its answers are known.
     fn answer(&mut self, client: u64) -> Result<(), JobError> {
         for _ in 0..u64::MAX {
-            match self.proxy.emit(client) {
-                Ok(Emit::Done) => {}
-                Ok(Emit::Idle) => break,
-                Err(_) => return Err(JobError::Refused),
+            if self.proxy.emit(client)? != Emit::Done {
+                break;
             }
         }
         let answers = self.proxy.output(client);
@@ -194,17 +206,16 @@ impl Pool {
 
     /// Loses a link with all bytes in flight on it, and opens it again.
     fn lose(&mut self, place: usize) -> Result<(), JobError> {
-        let lost = self.proxy.lost(place).map_err(|_| JobError::Refused)?;
-        self.digest.add(lost.as_slice());
+        self.digest.add(self.proxy.lost(place)?.as_slice());
         let (Some(server), Some(connection)) = (
             self.servers.get_mut(place),
             self.connections.get_mut(place),
         ) else {
             return Ok(());
         };
-        server.close(*connection).map_err(|_| JobError::Refused)?;
-        *connection = server.admit().map_err(|_| JobError::Refused)?;
-        self.proxy.back(place).map_err(|_| JobError::Refused)?;
+        server.close(*connection)?;
+        *connection = server.admit()?;
+        self.proxy.back(place)?;
         Ok(())
     }
 }

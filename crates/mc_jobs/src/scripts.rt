@@ -57,7 +57,10 @@ fn played(alloc: Global, is_checked: bool, script: &[u8]) -> Result<Vec<u8>, Job
     } else {
         text_of_pool_script::<LruStore<FixedHasher>>(alloc, script)
     };
-    text.map_err(|_| JobError::Refused)
+    match text {
+        Ok(text) => Ok(text),
+        Err(_) => Err(JobError::Refused),
+    }
 }
 
 /// A script of a pool.
@@ -70,17 +73,7 @@ fn script_of(
     parts: u64,
 ) -> Result<Script, JobError> {
     let mut script = Script::new(alloc, servers, clients)?;
-    for round in 1..=ROUNDS / parts.max(1) {
-        script.append_round(random, stock)?;
-        if round % 100 == 0 {
-            script.append_loss(random)?;
-        }
-        if round % 400 == 0 {
-            script.append_drain()?;
-        }
-    }
-    script.append_join()?;
-    script.append_drain()?;
+    script.append_rounds(random, stock, ROUNDS / parts.max(1))?;
     Ok(script)
 }
 
@@ -116,6 +109,26 @@ impl Script {
         self.text.extend_from_slice(after)?;
         self.events = self.events.saturating_add(1);
         Ok(())
+    }
+
+    /// Appends this number of rounds, with losses and drains between them, then a server that joins, and a last drain.
+    fn append_rounds(
+        &mut self,
+        random: &mut Random,
+        stock: &Stock,
+        count: u64,
+    ) -> Result<(), AllocError> {
+        for round in 1..=count {
+            self.append_round(random, stock)?;
+            if round % 100 == 0 {
+                self.append_loss(random)?;
+            }
+            if round % 400 == 0 {
+                self.append_drain()?;
+            }
+        }
+        self.append_join()?;
+        self.append_drain()
     }
 
     /// Appends a round: four clients send requests, all servers answer, and the four are answered.

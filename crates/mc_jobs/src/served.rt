@@ -33,13 +33,25 @@ impl RandomSource for Fixed {
 
 /// A server without a connection, whose cache has these limits.
 pub fn opened(alloc: Global, budget: u64, items: usize) -> Result<TableServer, JobError> {
-    let hasher = SecretState::new(&Fixed).map_err(|_| JobError::Refused)?;
+    let Ok(hasher) = SecretState::new(&Fixed) else {
+        return Err(JobError::Refused);
+    };
     if !mc_cache::is_within_bounds(budget, items) {
         return Err(JobError::Refused);
     }
-    let store = TableStore::with_hasher(alloc, items, hasher).map_err(|_| JobError::Memory)?;
+    let Ok(store) = TableStore::with_hasher(alloc, items, hasher) else {
+        return Err(JobError::Memory);
+    };
     let cache = Cache::new(alloc, store, budget, items, CasCounter::starting_at(0));
     Ok(Server::new(alloc, cache))
+}
+
+/// Admits this number of connections.
+fn admit(server: &mut TableServer, connections: u64) -> Result<(), JobError> {
+    for _ in 0..connections {
+        server.admit()?;
+    }
+    Ok(())
 }
 
 /// A server and the answers to its clients.
@@ -60,9 +72,7 @@ impl Served {
         connections: u64,
     ) -> Result<Served, JobError> {
         let mut server = opened(alloc, budget, items)?;
-        for _ in 0..connections {
-            server.admit().map_err(|_| JobError::Refused)?;
-        }
+        admit(&mut server, connections)?;
         Ok(Served {
             server,
             moment: 1_000,
@@ -72,9 +82,7 @@ impl Served {
 
     /// Feeds a connection a piece, takes turns until none is pending, and takes the answers.
     pub fn hear(&mut self, number: u64, piece: &[u8]) -> Result<(), JobError> {
-        self.server
-            .feed(number, piece)
-            .map_err(|_| JobError::Refused)?;
+        self.server.feed(number, piece)?;
         turn_all(&mut self.server, number, self.moment)?;
         let answers = self.server.output(number);
         let count = answers.len();
@@ -87,9 +95,7 @@ impl Served {
 
     /// Feeds one request likewise, and returns the number that ends its answer's first line; 0 if it ends with none.
     pub fn hear_number(&mut self, number: u64, piece: &[u8]) -> Result<u64, JobError> {
-        self.server
-            .feed(number, piece)
-            .map_err(|_| JobError::Refused)?;
+        self.server.feed(number, piece)?;
         turn_all(&mut self.server, number, self.moment)?;
         let answer = self.server.output(number);
         let count = answer.len();
@@ -116,10 +122,8 @@ impl Served {
 /// Takes turns of a connection until none is pending.
 pub fn turn_all(server: &mut TableServer, number: u64, moment: u32) -> Result<(), JobError> {
     for _ in 0..u64::MAX {
-        match server.turn_within(number, u64::from(moment), ANSWER) {
-            Ok(Limited::Turned(Turn::Took)) => {}
-            Ok(_) => break,
-            Err(_) => return Err(JobError::Refused),
+        if server.turn_within(number, u64::from(moment), ANSWER)? != Limited::Turned(Turn::Took) {
+            break;
         }
     }
     Ok(())

@@ -21,9 +21,8 @@ pub fn commands_are_in_their_run()
 /// may have written is between the two in the key's order, and was executed by the server that gave the hit. This holds whichever servers joined or
 /// restarted, if both clients have one proxy, or the key was not routed back: in the account `two_rings_show_older_values` it was. Between is by the key's
 /// order: a command whose reply was taken, by another proxy, and answered before the store was taken, is between only if the key was routed back to the
-/// store. In the run
-/// `another_value_is_read` (`mc_registers`) the other command is another store, and in the account `lost_commands_may_come_late` it is a lost one. In
-/// the account `early_gets_show_older_values` the get was taken before that answer.
+/// store. In the run `another_value_is_read` (`mc_registers`) the other command is another store, and in the account `lost_commands_may_come_late` it is
+/// a lost one. In the account `early_gets_show_older_values` the get was taken before that answer.
 pub fn clients_read_own_writes()
     ensures { (home : Homes) (losses : Losses) (counter : ℕ) (order : Order) (texts outs : ℕ → List ℕ) (histories : ℕ → List Entry) (log : Log)
         → IsLinearizablePool home losses counter order texts outs histories log → (key : List ℕ) → ClientsReadOwnWrites home order histories log key }

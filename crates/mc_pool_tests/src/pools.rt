@@ -342,12 +342,18 @@ pub fn pool(alloc: Global, points: &[Point]) -> Result<Proxy, ProxyError> {
 /// Likewise, with this choice for lost commands.
 fn pool_with(alloc: Global, points: &[Point], losses: Losses) -> Result<Proxy, ProxyError> {
     let mut proxy = Proxy::with_losses(alloc, ring(alloc, points)?, losses)?;
-    for place in 0..points.len() {
+    open(&mut proxy, points.len())?;
+    Ok(proxy)
+}
+
+/// Brings this number of links up, and admits two clients.
+fn open(proxy: &mut Proxy, links: usize) -> Result<(), ProxyError> {
+    for place in 0..links {
         proxy.back(place)?;
     }
-    admit(&mut proxy)?;
-    admit(&mut proxy)?;
-    Ok(proxy)
+    admit(proxy)?;
+    admit(proxy)?;
+    Ok(())
 }
 
 fn pool_of_two(alloc: Global, losses: Losses) -> Result<Proxy, ProxyError> {
@@ -459,11 +465,16 @@ fn hears(proxy: &mut Proxy, server: usize, bytes: &[u8]) -> Result<LinkStep, Pro
     Ok(last)
 }
 
-/// Whether each step of a dialogue has its expected result.
+/// Whether a dialogue with a new pool goes as expected.
 fn goes_on_so(alloc: Global, losses: Losses, steps: &[Step]) -> Result<bool, ProxyError> {
     let mut proxy = pool_of_two(alloc, losses)?;
+    each_goes_so(alloc, &mut proxy, steps)
+}
+
+/// Whether each step of a dialogue has its expected result.
+fn each_goes_so(alloc: Global, proxy: &mut Proxy, steps: &[Step]) -> Result<bool, ProxyError> {
     for step in steps {
-        if !goes_so(alloc, &mut proxy, step)? {
+        if !goes_so(alloc, proxy, step)? {
             return Ok(false);
         }
     }

@@ -251,27 +251,45 @@ fn ends_alone(
 ) -> Result<bool, Fail> {
     let streams = calm.with(end, number);
     let mut pool = new_pool(alloc, streams.link)?;
-    let (last, _, taken) = play(alloc, &mut pool, exchange.sent, streams.client)?;
-    let is_so = if end.0 {
-        last == Pumped::Done && are_answers(alloc, exchange, &taken)?
-    } else {
-        last == Pumped::Failed && answers_until(alloc, exchange, REQUESTS)?.starts_with(&taken)
-    };
-    mend(alloc, &mut pool, calm.link)?;
+    let is_so = ends_so(alloc, &mut pool, exchange, streams.client, end)?;
+    Ok(is_so && serves_on(alloc, &mut pool, calm)?)
+}
+
+/// Whether a client whose stream or whose proxy's link ends was sent what it should be.
+fn ends_so(
+    alloc: Global,
+    pool: &mut Pool,
+    exchange: &Exchange,
+    sides: Sides,
+    (is_link, _, _): End,
+) -> Result<bool, Fail> {
+    let (last, _, taken) = play(alloc, pool, exchange.sent, sides)?;
+    if is_link {
+        return Ok(last == Pumped::Done && are_answers(alloc, exchange, &taken)?);
+    }
+    let answers = answers_until(alloc, exchange, REQUESTS)?;
+    Ok(last == Pumped::Failed && answers.starts_with(&taken))
+}
+
+/// Whether the next client gets all its answers, once the link is up.
+fn serves_on(alloc: Global, pool: &mut Pool, calm: Streams) -> Result<bool, Fail> {
+    mend(alloc, pool, calm.link)?;
     let [first, _, _] = &EXCHANGES;
-    let next = calls_of(alloc, &mut pool, first, calm.client)?;
-    Ok(is_so && next.is_some())
+    Ok(calls_of(alloc, pool, first, calm.client)?.is_some())
+}
+
+/// The calls on both streams if no call ends one, if the client gets all its answers.
+fn calm_calls(alloc: Global, exchange: &Exchange, calm: Streams) -> Result<Option<Streams>, Fail> {
+    let mut pool = new_pool(alloc, calm.link)?;
+    let client = calls_of(alloc, &mut pool, exchange, calm.client)?;
+    let link = pool.link.sides();
+    Ok(client.map(|client| Streams { client, link }))
 }
 
 /// Whether an exchange gets all its answers if no call ends a stream, and goes right whichever of its calls does.
 fn is_pumped(alloc: Global, exchange: &Exchange, calm: Streams) -> Result<bool, Fail> {
-    let mut pool = new_pool(alloc, calm.link)?;
-    let Some(client) = calls_of(alloc, &mut pool, exchange, calm.client)? else {
+    let Some(made) = calm_calls(alloc, exchange, calm)? else {
         return Ok(false);
-    };
-    let made = Streams {
-        client,
-        link: pool.link.sides(),
     };
     let mut is_so = true;
     for end in ENDS {

@@ -27,17 +27,20 @@ fn routed(alloc: Global, request: &Request) -> Result<(usize, Vec<u8>), Fail> {
     Ok((commands, answer))
 }
 
+/// Whether the first request of a text has this number of commands, and is answered so if they are lost.
+fn is_kept(alloc: Global, text: &[u8], count: usize) -> Result<bool, Fail> {
+    let request = request_of(alloc, text)?;
+    let (commands, answer) = routed(alloc, &request)?;
+    Ok(commands == count && answer.as_slice() == b"SERVER_ERROR link lost\r\n".as_slice())
+}
+
 /// Requests, and how many commands each has.
 const KEPT: [(&[u8], usize); 2] = [(b"get a abc\r\n", 2), (b"ms a 1 c k\r\nx\r\n", 1)];
 
 #[test]
 fn requests_are_kept(rt: HostRuntime) -> Result<(), Fail> {
-    let alloc = rt.alloc();
     for (text, count) in KEPT {
-        let request = request_of(alloc, text)?;
-        let (commands, answer) = routed(alloc, &request)?;
-        assert!(rt; commands == count);
-        assert!(rt; answer.as_slice() == b"SERVER_ERROR link lost\r\n".as_slice());
+        assert!(rt; is_kept(rt.alloc(), text, count)?, "{count} commands");
     }
     Ok(())
 }

@@ -66,29 +66,39 @@ fn owners(alloc: Global, ring: &Ring) -> Result<u64, Fail> {
     Ok(owners)
 }
 
-/// A ring grows by one server at a time; one with its points given is equal to it.
+/// A ring that has grown by one server at a time.
+fn grown(alloc: Global, servers: usize) -> Result<Ring, RingError> {
+    let mut ring = Ring::new(alloc, &[server(alloc, 0)?])?;
+    for number in 1..servers {
+        ring = ring.with_server(alloc, server(alloc, number)?)?;
+    }
+    Ok(ring)
+}
+
+/// Whether points are as many as known, with the known ends and sum.
+fn are_known(points: &[Point], known: &Known) -> bool {
+    let ends = (points.first(), points.last());
+    let are_ends =
+        matches!(ends, (Some(least), Some(greatest)) if (least.point, greatest.point) == known.ends);
+    let mut sum = 0u64;
+    for p in points {
+        sum = sum.wrapping_add(u64::from(p.point));
+    }
+    points.len() == known.points && are_ends && sum == known.sum
+}
+
+/// Whether a grown ring has the known figures, once its points are given to another.
+fn is_known(alloc: Global, known: &Known) -> Result<bool, Fail> {
+    let ring = grown(alloc, known.servers)?;
+    let same = Ring::of_points(alloc, ring.servers(), ring.points())?;
+    let owners = owners(alloc, &same)?;
+    Ok(are_known(same.points(), known) && owners == known.owners)
+}
+
 #[test]
 fn points_and_owners_are_those_of_others(rt: HostRuntime) -> Result<(), Fail> {
-    let alloc = rt.alloc();
-    let mut ring = Ring::new(alloc, &[server(alloc, 0)?])?;
     for known in &KNOWN {
-        for number in ring.servers().len()..known.servers {
-            ring = ring.with_server(alloc, server(alloc, number)?)?;
-        }
-        let same = Ring::of_points(alloc, ring.servers(), ring.points())?;
-        let points = same.points();
-        assert_eq!(rt; points.len(), known.points);
-        let ends = (points.first(), points.last());
-        assert!(rt;
-            matches!(ends, (Some(least), Some(greatest)) if (least.point, greatest.point) == known.ends)
-        );
-        let mut sum = 0u64;
-        for p in points {
-            sum = sum.wrapping_add(u64::from(p.point));
-        }
-        assert_eq!(rt; sum, known.sum);
-        let owners = owners(alloc, &same)?;
-        assert_eq!(rt; owners, known.owners, "{} servers", known.servers);
+        assert!(rt; is_known(rt.alloc(), known)?, "{} servers", known.servers);
     }
     Ok(())
 }
@@ -110,18 +120,27 @@ fn taken_by_the_joined(alloc: Global, before: &Ring, after: &Ring) -> Result<Opt
     Ok(Some(taken))
 }
 
-/// A server that joins takes keys, and the owners of all others stay. From a server with one point, the hash of `a`, it takes all keys;
-/// from two servers as many as hashlib computes.
-#[test]
-fn keys_stay_or_go_to_the_server_that_joins(rt: HostRuntime) -> Result<(), Fail> {
-    let alloc = rt.alloc();
+/// Whether a server that joins takes all keys from one with one point, the hash of `a`.
+fn takes_all(alloc: Global) -> Result<bool, Fail> {
     let one = Ring::of_points(alloc, &[server(alloc, 0)?], &[AT_A])?;
-    assert_eq!(rt; owners(alloc, &one)?, 0);
     let two = one.with_server(alloc, server(alloc, 1)?)?;
-    assert_eq!(rt; owners(alloc, &two)?, 500500);
-    assert_eq!(rt; taken_by_the_joined(alloc, &one, &two)?, Some(1_000));
+    let before = owners(alloc, &one)?;
+    let after = owners(alloc, &two)?;
+    let taken = taken_by_the_joined(alloc, &one, &two)?;
+    Ok(before == 0 && after == 500_500 && taken == Some(1_000))
+}
+
+/// How many keys a server takes that joins two others.
+fn taken_from_two(alloc: Global) -> Result<Option<usize>, Fail> {
     let two = Ring::new(alloc, &[server(alloc, 0)?, server(alloc, 1)?])?;
     let three = two.with_server(alloc, server(alloc, 2)?)?;
-    assert_eq!(rt; taken_by_the_joined(alloc, &two, &three)?, Some(357));
+    taken_by_the_joined(alloc, &two, &three)
+}
+
+/// A server that joins takes keys, and the owners of all others stay. From two servers it takes as many as hashlib computes.
+#[test]
+fn keys_stay_or_go_to_the_server_that_joins(rt: HostRuntime) -> Result<(), Fail> {
+    assert!(rt; takes_all(rt.alloc())?);
+    assert_eq!(rt; taken_from_two(rt.alloc())?, Some(357));
     Ok(())
 }

@@ -133,15 +133,25 @@ fn moments(ran: &Ran<Ticks>) -> usize {
     all
 }
 
+/// Whether a client of this number of servers is answered as it should be. Each request has its moment, and so has each server's `quit`.
+fn is_answered_over<R: Threads + Wait + Time + Sync>(
+    rt: &R,
+    alloc: Global,
+    servers: usize,
+) -> Result<bool, Fail> {
+    let asked = inputs(alloc, 1, 1, ASKED)?;
+    let ring = ring_of(alloc, servers)?;
+    let ran = ran(rt, alloc, ring, &asked, &Meeting::of(1, true))?;
+    Ok(is_answered(&ran, ANSWERED) && moments(&ran) == servers.saturating_add(7))
+}
+
 #[test]
 fn a_dialogue_over_servers(rt: HostRuntime) -> Result<(), Fail> {
-    let alloc = rt.alloc();
     for servers in [1usize, 2, 5] {
-        let asked = inputs(alloc, 1, 1, ASKED)?;
-        let ring = ring_of(alloc, servers)?;
-        let ran = ran(&rt, alloc, ring, &asked, &Meeting::of(1, true))?;
-        assert!(rt; is_answered(&ran, ANSWERED));
-        assert_eq!(rt; moments(&ran), servers.saturating_add(7));
+        assert!(rt;
+            is_answered_over(&rt, rt.alloc(), servers)?,
+            "{servers} servers"
+        );
     }
     Ok(())
 }
@@ -167,6 +177,29 @@ fn numbers_in(alloc: Global, output: &[u8]) -> Result<Vec<u32>, Fail> {
     Ok(all)
 }
 
+/// Adds the numbers of a client's replies, and returns whether they are 100 and rise.
+fn add_numbers(alloc: Global, all: &mut Vec<u32>, output: &[u8]) -> Result<bool, Fail> {
+    let numbers = numbers_in(alloc, output)?;
+    all.extend_from_slice(numbers.as_slice())?;
+    Ok(numbers.len() == 100 && numbers.as_slice().is_sorted())
+}
+
+/// Whether the numbers of each client rise, and those of all are 1 to 300.
+fn are_counted(alloc: Global, ran: &Ran<Ticks>) -> Result<bool, Fail> {
+    let mut all = Vec::new(alloc);
+    let mut are_so = true;
+    for output in &ran.outputs {
+        are_so &= add_numbers(alloc, &mut all, output.as_slice())?;
+    }
+    all.sort()?;
+    let mut next = 0u32;
+    for number in all.as_slice() {
+        next = next.wrapping_add(1);
+        are_so &= *number == next;
+    }
+    Ok(are_so && next == 300)
+}
+
 #[test]
 fn three_clients_count(rt: HostRuntime) -> Result<(), Fail> {
     let alloc = rt.alloc();
@@ -178,19 +211,7 @@ fn three_clients_count(rt: HostRuntime) -> Result<(), Fail> {
         &asked,
         &Meeting::of(1, true),
     )?;
-    let mut all = Vec::new(alloc);
-    for output in &ran.outputs {
-        let numbers = numbers_in(alloc, output.as_slice())?;
-        assert_eq!(rt; numbers.len(), 100);
-        assert_eq!(rt; numbers.as_slice().is_sorted(), true);
-        all.extend_from_slice(numbers.as_slice())?;
-    }
-    all.sort()?;
-    let mut expected = Vec::new(alloc);
-    for number in 1..=300u32 {
-        expected.push(number)?;
-    }
-    assert_eq!(rt; all.as_slice(), expected.as_slice());
+    assert!(rt; are_counted(alloc, &ran)?);
     assert_eq!(rt; moments(&ran), 301);
     Ok(())
 }
@@ -254,14 +275,19 @@ fn runs_that_give_up(rt: HostRuntime) -> Result<(), Fail> {
     let alloc = rt.alloc();
     let two = [Some(100), Some(100)];
     let open = Meeting::of(1, true);
-    let one_clock = refused(&rt, alloc, 1, [Some(100)].as_slice(), &open)?;
-    assert_eq!(rt; one_clock, ThreadsError::ClockCount);
-    let crowded = refused(&rt, alloc, 1_025, two.as_slice(), &open)?;
-    assert_eq!(rt; crowded, ThreadsError::TooManyClients);
-    let unkept = refused(&rt, alloc, 1, [None, None].as_slice(), &open)?;
-    assert_eq!(rt; unkept, ThreadsError::Memory);
-    let shut = refused(&rt, alloc, 1, two.as_slice(), &Meeting::of(1, false))?;
-    assert_eq!(rt; shut, ThreadsError::GateShut);
+    let causes = [
+        refused(&rt, alloc, 1, [Some(100)].as_slice(), &open)?,
+        refused(&rt, alloc, 1_025, two.as_slice(), &open)?,
+        refused(&rt, alloc, 1, [None, None].as_slice(), &open)?,
+        refused(&rt, alloc, 1, two.as_slice(), &Meeting::of(1, false))?,
+    ];
+    let wanted = [
+        ThreadsError::ClockCount,
+        ThreadsError::TooManyClients,
+        ThreadsError::Memory,
+        ThreadsError::GateShut,
+    ];
+    assert_eq!(rt; causes, wanted);
     Ok(())
 }
 

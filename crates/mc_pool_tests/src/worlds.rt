@@ -217,7 +217,9 @@ fn opened(alloc: Global, script: &PoolScript) -> Result<World<ListStore>, WorldE
 
 /// The world that a script begins with: of one proxy, or of several and one server.
 fn opened_once(alloc: Global, script: &PoolScript) -> Result<World<ListStore>, WorldError> {
-    let ring = script.ring(alloc).map_err(|_| WorldError::Memory)?;
+    let Ok(ring) = script.ring(alloc) else {
+        return Err(WorldError::Memory);
+    };
     let (clients, budget, items) = (script.clients(), script.budget(), script.items());
     if script.proxies() == 1 {
         return World::new(alloc, ring, clients, budget, items);
@@ -307,12 +309,18 @@ fn play(alloc: Global, world: &mut World<ListStore>, line: &PoolLine) -> Result<
     Ok(())
 }
 
+/// Plays all lines of a script.
+fn play_all(alloc: Global, world: &mut World<ListStore>, script: &PoolScript) -> Result<(), Fail> {
+    for line in script.lines() {
+        play(alloc, world, line)?;
+    }
+    Ok(())
+}
+
 /// All bytes that were emitted to the first client of a script.
 fn emitted_bytes(alloc: Global, script: &PoolScript) -> Result<Vec<u8>, Fail> {
     let mut world = opened(alloc, script)?;
-    for line in script.lines() {
-        play(alloc, &mut world, line)?;
-    }
+    play_all(alloc, &mut world, script)?;
     Ok(put_out(&world)?)
 }
 

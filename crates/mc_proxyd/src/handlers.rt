@@ -43,11 +43,15 @@ impl ProxyHandler {
     /// Makes the handler of the clients of a new proxy over a ring, with this choice for lost commands. If more bytes than `most`
     /// are buffered for a client, the proxy only sends its answers.
     pub fn new(alloc: Global, ring: Ring, losses: Losses, most: u64) -> Result<Self, ServeError> {
-        let proxy = Proxy::with_losses(alloc, ring, losses);
+        let keys = HashMap::with_capacity(alloc, MAX_SESSIONS)?;
+        let piece = Vec::from_elem(alloc, 0, PIECE_LEN)?;
+        let Ok(proxy) = Proxy::with_losses(alloc, ring, losses) else {
+            return Err(ServeError::Memory);
+        };
         Ok(ProxyHandler {
-            proxy: proxy.map_err(|_| ServeError::Memory)?,
-            keys: HashMap::with_capacity(alloc, MAX_SESSIONS)?,
-            piece: Vec::from_elem(alloc, 0, PIECE_LEN)?,
+            proxy,
+            keys,
+            piece,
             tally: ClientTally::new(losses == Losses::Missed),
             most,
         })

@@ -208,8 +208,9 @@ impl<'a> Listing<'a> {
         };
         let server = line.clone()?;
         self.servers.reserve(1)?;
-        pool.join(proxy, &server, false)
-            .map_err(|_| Mistake::Memory)?;
+        if pool.join(proxy, &server, false).is_err() {
+            return Err(Mistake::Memory);
+        }
         if let Ok(name) = str::from_utf8(server.name.as_bytes()) {
             tell(rt, name, Notice::Joined);
         }

@@ -167,7 +167,9 @@ impl Lookups {
         let question = Arc::new(self.alloc, Question::new(address, waker))?;
         let asked = Arc::try_clone(&question)?;
         // There is a place for the question of each server, and each has at most one.
-        self.questions.push(asked).map_err(|_| Cause::Memory)?;
+        if self.questions.push(asked).is_err() {
+            return Err(Cause::Memory);
+        }
         self.bell.unpark();
         Ok(Lookup {
             question,

@@ -12,7 +12,7 @@
 //! look-up of a host: look-ups have threads of their own. A connection that is given up is reset. [`ProxySettings`] says when serving ends, how long a
 //! server with pending commands may be silent, when an idle client is closed, and how often the proxy reports its work. It also says where the servers
 //! are, which one joins and which file lists them. A server that is appended to that file joins, and a new address behind a name replaces the old one.
-//! The number of clients is limited so that each server has a descriptor ([`other_files`]). The pumps are [`mc_proxy_pump::pump_client`] and
+//! The number of clients is limited so that each server has a descriptor ([`files_of`]). The pumps are [`mc_proxy_pump::pump_client`] and
 //! [`mc_proxy_pump::pump_link`], which have the law of a client's stream and of a server's. [`command`] and [`Options`] are the command line of
 //! [`PROGRAM`], and a [`NamedServer`] is what a word of it names. [`tell_mistake`] reports which word, or which line of the file, names none.
 //!
@@ -68,7 +68,7 @@ use mc_proxy::{Losses, MAX_SESSIONS};
 use mc_ring::Ring;
 use mistakes::tell_mistake;
 use options::{ListError, Options, PROGRAM, ServerSource, command};
-use rooms::other_files;
+use rooms::files_of;
 use serving::serve;
 use settings::ProxySettings;
 use std::alloc::Global;
@@ -90,7 +90,7 @@ fn main(rt: HostRuntime) -> ExitCode {
     ExitCode::from(exit_status(&served))
 }
 
-/// Reads the words and the form of log lines they ask for, and then prints how large the ring is, or serves.
+/// Reads the words and the form of log lines they ask for, and obeys them.
 fn run<R>(rt: &R, option: &mut LogOption) -> Result<(), Failure>
 where
     R: Net<Listener = TcpListener, Stream = TcpStream>,
@@ -102,6 +102,19 @@ where
     let matches = command(alloc)?.try_get_matches_from(words.as_slice())?;
     *option = LogOption::of(&matches);
     let logged = LoggingRuntime::new(rt, PROGRAM, *option);
+    match Options::of(rt, alloc, &matches) {
+        Ok(options) => obey(rt, &logged, alloc, options),
+        Err(error) => Err(refusal_of(&logged, &matches, error)),
+    }
+}
+
+/// Prints how large the ring is, or serves by `rt`. Names are looked up in threads of `system`.
+fn obey<S, R>(system: &S, rt: &R, alloc: Global, options: Options<'_>) -> Result<(), Failure>
+where
+    S: Net<Listener = TcpListener, Stream = TcpStream>,
+    S: Env + Print + Wait + Threads + AllocGlobal + Copy + Send + 'static,
+    R: Clock + Files + Print + EprintSeldom + Net + RandomSource + Wait,
+{
     let Options {
         listen,
         ring,
@@ -109,20 +122,22 @@ where
         log,
         admin,
         check,
-    } = Options::of(rt, alloc, &matches).map_err(|error| refusal_of(&logged, &matches, error))?;
+    } = options;
     admin.check().map_err(Failure::Refused)?;
     if check {
-        return print_size(rt, &ring, settings.losses);
+        return print_size(system, &ring, settings.losses);
     }
-    let is_read = is_read(rt, log.is_any());
-    let operators = Operators::new(rt, alloc, &admin).map_err(|error| Failure::at(
-        rt,
-        error,
-        admin.listen.unwrap_or(""),
-        is_read,
-    ))?;
-    let served = listen_and_serve(rt, &logged, alloc, listen, &settings, operators, ring);
-    served.map_err(|error| Failure::at(rt, error, listen, is_read))
+    let is_read = is_read(system, log.is_any());
+    match Operators::new(system, alloc, &admin) {
+        Ok(operators) => {
+            let served = listen_and_serve(system, rt, alloc, listen, &settings, operators, ring);
+            served.map_err(|error| Failure::at(system, error, listen, is_read))
+        }
+        Err(error) => {
+            let listen = admin.listen.unwrap_or("");
+            Err(Failure::at(system, error, listen, is_read))
+        }
+    }
 }
 
 /// Listens, and serves by `rt`. Names are looked up in threads of `system`.
@@ -141,13 +156,7 @@ where
     R: Clock + Files + Print + EprintSeldom + Net + RandomSource + Wait,
 {
     let listener = bind(rt, listen)?;
-    let others = other_files(
-        ring.servers().len(),
-        settings.join.is_some(),
-        settings.list.is_some(),
-        settings.may_look_up(),
-    );
-    let others = others.saturating_add(operators.files());
+    let others = files_of(&ring, settings, &operators);
     tell_open_files(rt, PROGRAM, others, MAX_SESSIONS);
     serve(
         system, rt, alloc, listen, listener, settings, operators, ring,

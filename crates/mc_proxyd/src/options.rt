@@ -17,7 +17,7 @@ use mc_program::{
     AdminTerms, LogOption, Terms, VERSION, accept, admin, admin_name, flag, idle, listen, log,
     number, report, size, size_within,
 };
-use mc_ring::{Ring, RingError};
+use mc_ring::{Address, Ring, RingError};
 use std::alloc::{AllocError, Global};
 use std::fs::Files;
 use thiserror::Error;
@@ -100,7 +100,8 @@ impl<'a> Options<'a> {
         alloc: Global,
         matches: &ArgMatches<'a>,
     ) -> Result<Options<'a>, ListError> {
-        let held = matches.get_str("held").unwrap_or("");
+        let listen = matches.get_str("listen").ok_or(ListError::Bad)?;
+        let timeout = matches.get_one::<u64>("timeout").ok_or(ListError::Bad)?;
         let list = matches.get_str("servers");
         let servers = match list {
             Some(path) => listed(rt, alloc, path)?,
@@ -108,23 +109,21 @@ impl<'a> Options<'a> {
         };
         let after = matches.get_one::<u64>("join-after").unwrap_or(0);
         let join = joining(alloc, servers.as_slice(), matches.get_str("join"), after)?;
-        let mut names = Vec::with_capacity(alloc, servers.len())?;
-        let mut addresses = Vec::with_capacity(alloc, servers.len())?;
-        for NamedServer { name, address } in servers {
-            names.push(name).map_err(|_| ListError::Memory)?;
-            addresses.push(address).map_err(|_| ListError::Memory)?;
-        }
+        let held = matches.get_str("held").unwrap_or("");
+        let held = size_within(held, 1, MOST_HELD).ok_or(ListError::Held)?;
+        let list = owned(alloc, list)?;
+        let (names, addresses) = unzipped(alloc, servers)?;
         let ring = Ring::new(alloc, names.as_slice())?;
         Ok(Options {
-            listen: matches.get_str("listen").ok_or(ListError::Bad)?,
+            listen,
             ring,
             settings: ProxySettings {
                 terms: Terms::of(matches),
                 losses: losses_named(matches.get_str("lost").unwrap_or("")),
-                held: size_within(held, 1, MOST_HELD).ok_or(ListError::Held)?,
-                timeout: matches.get_one::<u64>("timeout").ok_or(ListError::Bad)?,
+                held,
+                timeout,
                 addresses,
-                list: owned(alloc, list)?,
+                list,
                 join,
             },
             log: LogOption::of(matches),
@@ -136,13 +135,22 @@ impl<'a> Options<'a> {
 
 /// Returns the servers that a file lists. The error is its mistake.
 fn listed<R: Files>(rt: &R, alloc: Global, path: &str) -> Result<Vec<NamedServer>, ListError> {
-    let servers = text_of(rt, alloc, path).and_then(|text| servers_in(alloc, text.as_str()));
-    servers.map_err(|mistake| list_error_at(ServerSource::File, mistake))
+    let servers = match text_of(rt, alloc, path) {
+        Ok(text) => servers_in(alloc, text.as_str()),
+        Err(mistake) => Err(mistake),
+    };
+    match servers {
+        Ok(servers) => Ok(servers),
+        Err(mistake) => Err(list_error_at(ServerSource::File, mistake)),
+    }
 }
 
 /// Returns the servers of words. The error is their mistake.
 fn named(alloc: Global, words: &[&str]) -> Result<Vec<NamedServer>, ListError> {
-    servers_of(alloc, words).map_err(|mistake| list_error_at(ServerSource::Words, mistake))
+    match servers_of(alloc, words) {
+        Ok(servers) => Ok(servers),
+        Err(mistake) => Err(list_error_at(ServerSource::Words, mistake)),
+    }
 }
 
 /// Returns the error of a mistake at a place, for the caller that asks for a pool.
@@ -153,6 +161,20 @@ fn list_error_at(place: ServerSource, mistake: Mistake) -> ListError
         Mistake::Memory => ListError::Memory,
         _ => ListError::At(place, mistake),
     }
+}
+
+/// Parts the names of servers from their addresses.
+fn unzipped(
+    alloc: Global,
+    servers: Vec<NamedServer>,
+) -> Result<(Vec<Address>, Vec<Address>), AllocError> {
+    let mut names = Vec::with_capacity(alloc, servers.len())?;
+    let mut addresses = Vec::with_capacity(alloc, servers.len())?;
+    for NamedServer { name, address } in servers {
+        names.push(name)?;
+        addresses.push(address)?;
+    }
+    Ok((names, addresses))
 }
 
 /// Copies a text, if there is one.

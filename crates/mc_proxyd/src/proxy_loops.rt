@@ -9,7 +9,7 @@ use crate::listings::Listing;
 use crate::lookups::Lookups;
 use crate::options::PROGRAM;
 use crate::pools::Upstreams;
-use crate::rooms::other_files;
+use crate::rooms::files_of;
 use crate::settings::ProxySettings;
 use crate::woken::Woken;
 use mc_net::{
@@ -67,6 +67,19 @@ pub struct ProxyLoop<'a> {
     ghost within: { second < 2 ^ 63 },
 }
 
+/// Makes the state of the file that lists the servers, if there is one.
+fn listing_of<'a>(
+    alloc: Global,
+    settings: &'a ProxySettings,
+    ring: &Ring,
+) -> Result<Option<Listing<'a>>, AllocError> {
+    let Some(path) = &settings.list else {
+        return Ok(None);
+    };
+    let listing = Listing::new(alloc, path.as_str(), ring, settings.addresses.as_slice())?;
+    Ok(Some(listing))
+}
+
 impl<'a> ProxyLoop<'a> {
     /// Makes the loop of a proxy without a client, for a listener at an address, upstreams that were not tried, and the look-ups of their
     /// hosts' names. A random number decides when upstreams that failed are tried again.
@@ -79,34 +92,25 @@ impl<'a> ProxyLoop<'a> {
         lookups: Option<Lookups>,
         random: u64,
     ) -> Result<Self, ServeError> {
+        let others = files_of(&ring, settings, &operators);
+        let freed = Vec::with_capacity(alloc, SERVER_LIMIT)?;
+        let woken = Woken::with_capacity(alloc, MAX_SESSIONS)?;
+        let clients = Clients::new(alloc, MAX_SESSIONS, settings.terms.idle)?;
+        let listing = listing_of(alloc, settings, &ring)?;
         let pool = Upstreams::new(alloc, &ring, settings, lookups, random)?;
-        let others = other_files(
-            ring.servers().len(),
-            settings.join.is_some(),
-            settings.list.is_some(),
-            settings.may_look_up(),
-        );
-        let others = others.saturating_add(operators.files());
-        let listing = match &settings.list {
-            Some(path) => {
-                let addresses = settings.addresses.as_slice();
-                Some(Listing::new(alloc, path.as_str(), &ring, addresses)?)
-            }
-            None => None,
-        };
         Ok(ProxyLoop {
+            handler: ProxyHandler::new(alloc, ring, settings.losses, settings.held)?,
             alloc,
             listen,
             settings,
             operators,
-            handler: ProxyHandler::new(alloc, ring, settings.losses, settings.held)?,
-            clients: Clients::new(alloc, MAX_SESSIONS, settings.terms.idle)?,
+            clients,
             pool,
             joining: Joining::new(&settings.join),
             listing,
             next: None,
-            woken: Woken::with_capacity(alloc, MAX_SESSIONS)?,
-            freed: Vec::with_capacity(alloc, SERVER_LIMIT)?,
+            woken,
+            freed,
             resumed: 0,
             unsent: false,
             joined: false,

@@ -35,11 +35,14 @@ where
     R: Net<Listener = net::TcpListener, Stream = net::TcpStream>,
     R: Threads + Wait + Copy + Send + 'static,
 {
-    let (questions, asked) = RingBuffer::new(alloc, SERVER_LIMIT)?;
-    let bell = Arc::new(alloc, Parker::new()).map_err(|_| ServeError::Memory)?;
-    let rung = Arc::try_clone(&bell)?;
-    let lookups = Lookups::new(alloc, questions, Arc::try_clone(&bell)?);
     let name = "look-ups".to_string(alloc)?;
+    let Ok(bell) = Arc::new(alloc, Parker::new()) else {
+        return Err(ServeError::Memory);
+    };
+    let rung = Arc::try_clone(&bell)?;
+    let own = Arc::try_clone(&bell)?;
+    let (questions, asked) = RingBuffer::new(alloc, SERVER_LIMIT)?;
+    let lookups = Lookups::new(alloc, questions, own);
     let system = *rt;
     let begun = Builder::new()
         .name(name)
@@ -83,11 +86,15 @@ where
     let question = Arc::try_clone(question)?;
     let name = "look-up".to_string(alloc)?;
     let system = *rt;
-    let thread = Builder::new()
+    let begun = Builder::new()
         .name(name)
-        .spawn(rt, move || question.look_up(&system))
-        .map_err(|_| Cause::NoThread)?;
-    // Nobody joins it: it ends with its answer, and one that hangs must block nobody.
-    drop(thread);
-    Ok(())
+        .spawn(rt, move || question.look_up(&system));
+    match begun {
+        Ok(thread) => {
+            // Nobody joins it: it ends with its answer, and one that hangs must block nobody.
+            drop(thread);
+            Ok(())
+        }
+        Err(_) => Err(Cause::NoThread),
+    }
 }

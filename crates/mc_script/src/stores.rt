@@ -25,12 +25,18 @@ impl ScriptStore for ListStore {
 
 impl ScriptStore for LruStore<FixedHasher> {
     fn opened(alloc: Global, items: usize) -> Result<LruStore<FixedHasher>, SimError> {
-        LruStore::new(alloc, items).map_err(|_| SimError::Memory)
+        match LruStore::new(alloc, items) {
+            Ok(store) => Ok(store),
+            Err(_) => Err(SimError::Memory),
+        }
     }
 }
 
 impl ScriptStore for TableStore<FixedHasher> {
     fn opened(alloc: Global, items: usize) -> Result<TableStore<FixedHasher>, SimError> {
-        TableStore::new(alloc, items).map_err(|_| SimError::Memory)
+        match TableStore::new(alloc, items) {
+            Ok(store) => Ok(store),
+            Err(_) => Err(SimError::Memory),
+        }
     }
 }

@@ -3,6 +3,7 @@
 use crate::meagre::MeagreStore;
 use crate::servers::{MOMENT, Setup, WIDE, new_server};
 use mc_server::{Server, ServerError};
+use std::alloc::Global;
 use std::test::Fail;
 
 /// The pieces that a client sends to a new server with this setup, and the answer to each.
@@ -114,7 +115,7 @@ fn is_answered(
 }
 
 /// Whether a dialogue goes as expected, on the first connection of a server.
-fn goes_so(server: &mut Server<MeagreStore>, dialogue: &Dialogue) -> Result<bool, ServerError> {
+fn goes_on_so(server: &mut Server<MeagreStore>, dialogue: &Dialogue) -> Result<bool, ServerError> {
     let number = server.admit()?;
     let mut is_so = true;
     for said in dialogue.said {
@@ -123,11 +124,16 @@ fn goes_so(server: &mut Server<MeagreStore>, dialogue: &Dialogue) -> Result<bool
     Ok(is_so)
 }
 
+/// Whether a dialogue with a new server goes as expected.
+fn goes_so(alloc: Global, dialogue: &Dialogue) -> Result<bool, Fail> {
+    let mut server = new_server(alloc, dialogue.server)?;
+    Ok(goes_on_so(&mut server, dialogue)?)
+}
+
 #[test]
 fn dialogues_are_so(rt: HostRuntime) -> Result<(), Fail> {
     for dialogue in &DIALOGUES {
-        let mut server = new_server(rt.alloc(), dialogue.server)?;
-        assert!(rt; goes_so(&mut server, dialogue)?, "{}", dialogue.name);
+        assert!(rt; goes_so(rt.alloc(), dialogue)?, "{}", dialogue.name);
     }
     Ok(())
 }

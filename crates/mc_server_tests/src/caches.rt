@@ -7,7 +7,7 @@ use mc_request::{
     Atom, Counting, Creation, Direction, MetaCommand, MetaGet, Show, StoreMode, Update,
 };
 use mc_store::ListStore;
-use mc_text::{Block, Key};
+use mc_text::{Block, Key, KeyError};
 use std::alloc::{AllocError, Global};
 use std::test::Fail;
 
@@ -113,25 +113,44 @@ fn is_stored(alloc: Global, cache: &mut Cache<ListStore>) -> Result<bool, AllocE
     )
 }
 
-/// A `set` of a key and a block of its own, in place of a value and then under a new key.
+/// Whether a `set` of a key and a block of its own stores the value.
+fn is_set(
+    alloc: Global,
+    cache: &mut Cache<ListStore>,
+    key: &[u8],
+    value: &[u8],
+) -> Result<bool, KeyError> {
+    let own = Key::plain(alloc, key)?;
+    let reply = cache.set(own, 5, 0, Block::from_slice(alloc, value)?, 0);
+    Ok(matches!(reply, Reply::Stored) && cache.value(key) == Some(value))
+}
+
+/// Whether sets in place of a value and then under a new key store their values.
+fn are_set(alloc: Global, cache: &mut Cache<ListStore>) -> Result<bool, KeyError> {
+    let mut are_so = true;
+    for (key, value) in [(b"a", b"xyz"), (b"a", b"uvw"), (b"b", b"rst")] {
+        are_so &= is_set(alloc, cache, key, value)?;
+    }
+    Ok(are_so)
+}
+
+fn new_cache(alloc: Global) -> Cache<ListStore> {
+    let store = ListStore::new(alloc);
+    Cache::new(alloc, store, 1_000, 10, CasCounter::starting_at(0))
+}
+
 #[test]
 fn own_sets_are_stored(rt: HostRuntime) -> Result<(), Fail> {
-    let alloc = rt.alloc();
-    let store = ListStore::new(alloc);
-    let mut cache = Cache::new(alloc, store, 1_000, 10, CasCounter::starting_at(0));
-    for (key, value) in [(b"a", b"xyz"), (b"a", b"uvw"), (b"b", b"rst")] {
-        let own = Key::of_bytes(alloc, key)?;
-        let reply = cache.set(own, 5, 0, Block::from_slice(alloc, value)?, 0);
-        assert!(rt; matches!(reply, Reply::Stored) && cache.value(key) == Some(value.as_slice()));
-    }
+    let are_set = are_set(rt.alloc(), &mut new_cache(rt.alloc()))?;
+    assert!(rt; are_set);
     Ok(())
 }
 
 #[test]
 fn own_values_are_stored(rt: HostRuntime) -> Result<(), Fail> {
-    let alloc = rt.alloc();
-    let store = ListStore::new(alloc);
-    let mut cache = Cache::new(alloc, store, 1_000, 10, CasCounter::starting_at(0));
-    assert!(rt; are_shown(alloc, &mut cache)? && is_stored(alloc, &mut cache)?);
+    let mut cache = new_cache(rt.alloc());
+    let are_shown = are_shown(rt.alloc(), &mut cache)?;
+    let is_stored = is_stored(rt.alloc(), &mut cache)?;
+    assert!(rt; are_shown && is_stored);
     Ok(())
 }

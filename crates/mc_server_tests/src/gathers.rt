@@ -7,7 +7,7 @@ use crate::servers::{MOMENT, WIDE, new_server};
 use crate::streams::Call::{Blocks, Fails, Interrupts, Moves};
 use crate::streams::{Call, MANY, Sides, Stream};
 use mc_pump::{Pumped, Watch, pump_gathering};
-use mc_server::{AnswerLimit, Server};
+use mc_server::{AnswerLimit, Server, ServerError};
 use std::alloc::Global;
 use std::test::Fail;
 
@@ -49,9 +49,9 @@ const ASKED: &[u8] = b"get b\r\nget a\r\nget a b\r\nget a\r\n";
 
 /// Whether a client whose writes go so is answered this.
 fn is_answered(alloc: Global, writes: &'static [Call], answers: &[u8]) -> Result<bool, Fail> {
+    let mut stream = Stream::new(alloc, ASKED, Sides::new((ALL, writes)))?;
     let mut server = server_with_value(alloc)?;
     let number = server.admit()?;
-    let mut stream = Stream::new(alloc, ASKED, Sides::new((ALL, writes)))?;
     let (last, watch) = pumped(&mut server, number, &mut stream);
     let is_counted = watch.tally.requests == 4 && watch.tally.written == answers.len() as u64;
     Ok(last == Pumped::Done && is_counted && stream.sink.taken.as_slice() == answers)
@@ -77,16 +77,21 @@ const SIZES: [(&[u8], usize, usize); 2] = [
     (b"set a 0 0 65536\r\n", 4_096, 2),
 ];
 
+/// Opens a connection, sends a request, drops the answer, and returns the connection's number.
+fn number_after(server: &mut Server<MeagreStore>, request: &[u8]) -> Result<u64, ServerError> {
+    let number = server.admit()?;
+    server.feed(number, request)?;
+    server.turn(number, MOMENT)?;
+    server.taken_out(number, server.output(number).len());
+    Ok(number)
+}
+
 /// How many writes show a value twice that is set so.
 fn writes_of(alloc: Global, set: &[u8], sixteens: usize) -> Result<usize, Fail> {
-    let mut server = new_server(alloc, WIDE)?;
-    let number = server.admit()?;
-    let stored = with_value(alloc, set, sixteens, b"\r\n")?;
-    server.feed(number, stored.as_slice())?;
-    let _ = server.turn(number, MOMENT)?;
-    let count = server.output(number).len();
-    server.taken_out(number, count);
+    let request = with_value(alloc, set, sixteens, b"\r\n")?;
     let mut stream = Stream::new(alloc, b"get a\r\nget a\r\n", Sides::new((ALL, ALL)))?;
+    let mut server = new_server(alloc, WIDE)?;
+    let number = number_after(&mut server, &request)?;
     let (last, _) = pumped(&mut server, number, &mut stream);
     let made = stream.sink.calls.made;
     Ok(if last == Pumped::Done { made } else { 0 })
@@ -101,21 +106,30 @@ fn values_are_large_from_a_size_on(rt: HostRuntime) -> Result<(), Fail> {
     Ok(())
 }
 
+/// Whether a stream's connection ends so, with these bytes written to it.
+fn ends_so(
+    server: &mut Server<MeagreStore>,
+    stream: &mut Stream,
+    last: Pumped,
+    answer: &[u8],
+) -> Result<bool, ServerError> {
+    let number = server.admit()?;
+    let (pumped, _) = pumped(server, number, stream);
+    server.close(number)?;
+    Ok(pumped == last && stream.sink.taken.as_slice() == answer)
+}
+
 /// If the stream of a client fails while it is shown a large value, only its connection ends, and its requests before that are done.
 #[test]
 fn a_failing_stream_ends_one_connection(rt: HostRuntime) -> Result<(), Fail> {
     let alloc = rt.alloc();
-    let mut server = server_with_value(alloc)?;
-    let number = server.admit()?;
     let asked = b"get a\r\nset b 0 0 1\r\nx\r\n";
-    let mut stream = Stream::new(alloc, asked, Sides::new((ALL, &[Fails])))?;
-    let (failed, _) = pumped(&mut server, number, &mut stream);
-    server.close(number)?;
-    let next = server.admit()?;
+    let mut failing = Stream::new(alloc, asked, Sides::new((ALL, &[Fails])))?;
     let mut later = Stream::new(alloc, b"get b\r\n", Sides::new((ALL, ALL)))?;
-    let (done, _) = pumped(&mut server, next, &mut later);
-    let is_over = failed == Pumped::Failed && stream.sink.taken.is_empty();
-    let answer = b"VALUE b 0 1\r\nx\r\nEND\r\n".as_slice();
-    assert!(rt; is_over && done == Pumped::Done && later.sink.taken.as_slice() == answer);
+    let mut server = server_with_value(alloc)?;
+    let has_failed = ends_so(&mut server, &mut failing, Pumped::Failed, b"")?;
+    let answer = b"VALUE b 0 1\r\nx\r\nEND\r\n";
+    let is_done = ends_so(&mut server, &mut later, Pumped::Done, answer)?;
+    assert!(rt; has_failed && is_done);
     Ok(())
 }

@@ -4,9 +4,9 @@ use crate::fixture_texts::with_value;
 use crate::meagre::MeagreStore;
 use crate::servers::{MOMENT, WIDE, new_server};
 use crate::streams::Call::{Blocks, Fails, Interrupts, Moves};
-use crate::streams::{Call, Calls, MANY, SCRIPTS, Sides, Sink, Stream};
+use crate::streams::{Call, Calls, MANY, SCRIPTS, Sides, Stream};
 use mc_pump::{MAX_ROUNDS, Pumped, UNSENT_MARK, Watch, pump};
-use mc_server::{AnswerLimit, Server};
+use mc_server::{AnswerLimit, Server, ServerError};
 use std::alloc::Global;
 use std::test::Fail;
 
@@ -103,11 +103,20 @@ fn play(
     sent: &[u8],
     sides: Sides,
 ) -> Result<(Pumped, Sides, Vec<u8>), Fail> {
-    let number = server.admit()?;
     let mut stream = Stream::new(alloc, sent, sides)?;
-    let last = pumped(server, number, &mut stream);
-    server.close(number)?;
+    let last = pumped_alone(server, &mut stream)?;
     Ok((last, stream.sides(), stream.sink.taken))
+}
+
+/// Pumps a connection of its own, which is then closed, and returns the last pump.
+fn pumped_alone(
+    server: &mut Server<MeagreStore>,
+    stream: &mut Stream,
+) -> Result<Pumped, ServerError> {
+    let number = server.admit()?;
+    let last = pumped(server, number, stream);
+    server.close(number)?;
+    Ok(last)
 }
 
 /// The calls of an exchange, if the server answers all of it.
@@ -133,12 +142,32 @@ fn fails_alone(
 ) -> Result<bool, Fail> {
     let [next, _] = &EXCHANGES;
     let mut server = new_server(alloc, WIDE)?;
-    let is_stored = calls_of(alloc, &mut server, &OLDER, calm)?.is_some();
-    let (failed, _, before) = play(alloc, &mut server, exchange.sent, sides)?;
-    let is_kept = calls_of(alloc, &mut server, &KEPT, calm)?.is_some();
-    let is_served = calls_of(alloc, &mut server, next, calm)?.is_some();
-    let has_failed = failed == Pumped::Failed && exchange.answers.starts_with(before.as_slice());
+    let is_stored = is_whole(alloc, &mut server, &OLDER, calm)?;
+    let has_failed = has_failed(alloc, &mut server, exchange, sides)?;
+    let is_kept = is_whole(alloc, &mut server, &KEPT, calm)?;
+    let is_served = is_whole(alloc, &mut server, next, calm)?;
     Ok(is_stored && has_failed && is_kept && is_served)
+}
+
+/// Whether the server answers all of an exchange.
+fn is_whole(
+    alloc: Global,
+    server: &mut Server<MeagreStore>,
+    exchange: &Exchange,
+    calm: Sides,
+) -> Result<bool, Fail> {
+    Ok(calls_of(alloc, server, exchange, calm)?.is_some())
+}
+
+/// Whether an exchange fails, with correct bytes sent until then.
+fn has_failed(
+    alloc: Global,
+    server: &mut Server<MeagreStore>,
+    exchange: &Exchange,
+    sides: Sides,
+) -> Result<bool, Fail> {
+    let (failed, _, before) = play(alloc, server, exchange.sent, sides)?;
+    Ok(failed == Pumped::Failed && exchange.answers.starts_with(before.as_slice()))
 }
 
 /// A way to end a connection: whether a write ends it, and how the call goes.
@@ -206,35 +235,38 @@ fn unsent_after_a_pump(
 fn unsent_answers_stop_reads(rt: HostRuntime) -> Result<(), Fail> {
     let alloc = rt.alloc();
     let answer = with_value(alloc, b"VALUE a 0 500000\r\n", SIXTEENS, b"\r\nEND\r\n")?;
+    let answers = answer.repeat(alloc, 20)?;
     let asked = b"get a\r\n".repeat(alloc, 20)?;
     let mut stream = Stream::new(alloc, &asked, Sides::new((&[Moves(7)], &[Blocks])))?;
     let mut server = server_with_value(alloc)?;
+    let stops = stops_at(&mut server, &mut stream, answer.len())?;
+    assert!(rt; stops && stream.sink.taken.as_slice() == answers.as_slice());
+    Ok(())
+}
+
+/// Whether no more is read once nine answers of this many bytes are unsent, and all is done once the client takes them.
+fn stops_at(
+    server: &mut Server<MeagreStore>,
+    stream: &mut Stream,
+    answer: usize,
+) -> Result<bool, ServerError> {
     let number = server.admit()?;
-    let unsent = unsent_after_a_pump(&mut server, number, &mut stream);
-    let still = unsent_after_a_pump(&mut server, number, &mut stream);
-    let nine = answer.len().saturating_mul(9);
+    let unsent = unsent_after_a_pump(server, number, stream);
+    let still = unsent_after_a_pump(server, number, stream);
+    let nine = answer.saturating_mul(9);
     let are_unsent = unsent == nine && still == nine && nine >= UNSENT_MARK;
     let is_stopped = are_unsent && stream.source.calls.made == 9;
-    let Stream { source, sink } = stream;
-    let sink = Sink {
-        taken: sink.taken,
-        calls: Calls::new(&[Moves(100_000), Blocks]),
-    };
-    let mut stream = Stream { source, sink };
-    let last = pumped(&mut server, number, &mut stream);
-    let is_done = last == Pumped::Done
-        && stream.sink.taken.as_slice() == answer.repeat(alloc, 20)?.as_slice();
-    assert!(rt; is_stopped && is_done);
-    Ok(())
+    stream.sink.calls = Calls::new(&[Moves(100_000), Blocks]);
+    Ok(is_stopped && pumped(server, number, stream) == Pumped::Done)
 }
 
 /// A pump of a client that always sends ends after its rounds, so that others are served.
 #[test]
 fn a_pump_ends_though_more_comes(rt: HostRuntime) -> Result<(), Fail> {
-    let mut server = new_server(rt.alloc(), WIDE)?;
-    let number = server.admit()?;
     let sides = Sides::new((&[Moves(1)], &[Moves(1)]));
     let mut stream = Stream::new(rt.alloc(), &[b'x'; 1_000], sides)?;
+    let mut server = new_server(rt.alloc(), WIDE)?;
+    let number = server.admit()?;
     let mut watch = Watch::new(AnswerLimit::none());
     let last = pump_once(&mut server, number, &mut false, &mut stream, &mut watch);
     assert!(rt; last == Pumped::Again && stream.source.calls.made == MAX_ROUNDS as usize);
@@ -244,16 +276,22 @@ fn a_pump_ends_though_more_comes(rt: HostRuntime) -> Result<(), Fail> {
 /// A request whose answer may be larger than the limit is not taken, nor any after it: those before it are served.
 #[test]
 fn larger_answers_fail_a_pump(rt: HostRuntime) -> Result<(), Fail> {
-    let mut server = server_with_value(rt.alloc())?;
-    let number = server.admit()?;
     let sent = b"get b\r\nget a\r\nset a 0 0 1\r\nx\r\n";
     let mut stream = Stream::new(rt.alloc(), sent, Sides::new((ALL, ALL)))?;
+    let mut server = server_with_value(rt.alloc())?;
+    let is_limited = is_limited(&mut server, &mut stream)?;
+    assert!(rt; is_limited);
+    Ok(())
+}
+
+/// Whether a pump with a limit of 500,000 bytes answers the first request alone, and fails at one whose answer may have 501,024.
+fn is_limited(server: &mut Server<MeagreStore>, stream: &mut Stream) -> Result<bool, ServerError> {
+    let number = server.admit()?;
     let mut watch = Watch::new(AnswerLimit { bytes: 500_000 });
-    let last = pump_once(&mut server, number, &mut false, &mut stream, &mut watch);
+    let last = pump_once(server, number, &mut false, stream, &mut watch);
     let is_refused = last == Pumped::Failed && server.bound(number)? == 501_024;
     let is_one = watch.tally.requests == 1 && server.output(number) == b"END\r\n".as_slice();
-    assert!(rt; is_refused && is_one);
-    Ok(())
+    Ok(is_refused && is_one)
 }
 
 /// How the reads of a large `set` and of a `get` after it go, and how many there are with the one that returns the end.
@@ -286,12 +324,17 @@ fn a_large_block_is_read_where_it_is_kept(rt: HostRuntime) -> Result<(), Fail> {
     let head = b"STORED\r\nVALUE a 0 500000\r\n";
     let answers = with_value(alloc, head, SIXTEENS, b"\r\nEND\r\n")?;
     for case in &WIDE_READS {
-        let mut server = new_server(alloc, WIDE)?;
-        let number = server.admit()?;
-        let mut stream = Stream::new(alloc, sent.as_slice(), Sides::new((case.reads, ALL)))?;
-        let last = pumped_by(&mut server, number, &mut stream, true);
-        let is_answered = stream.sink.taken.as_slice() == answers.as_slice();
-        assert!(rt; last == Pumped::Done && is_answered && stream.source.calls.made == case.made);
+        assert!(rt; is_read_so(alloc, case, &sent, &answers)?);
     }
     Ok(())
+}
+
+/// Whether a new server answers this to what is sent, in as many reads as the case has.
+fn is_read_so(alloc: Global, case: &WideReads, sent: &[u8], answers: &[u8]) -> Result<bool, Fail> {
+    let mut stream = Stream::new(alloc, sent, Sides::new((case.reads, ALL)))?;
+    let mut server = new_server(alloc, WIDE)?;
+    let number = server.admit()?;
+    let last = pumped_by(&mut server, number, &mut stream, true);
+    let is_answered = stream.sink.taken.as_slice() == answers;
+    Ok(last == Pumped::Done && is_answered && stream.source.calls.made == case.made)
 }

@@ -397,17 +397,20 @@ fn is_answered<S: Store + Drop>(
     )
 }
 
+/// Whether a client of a server over a list is answered so, however its texts arrive.
+fn are_answered(alloc: Global, example: &Example) -> Result<bool, Fail> {
+    let mut are_so = true;
+    for piece in pieces(example) {
+        let mut server = new_server(alloc, example.server)?;
+        are_so &= is_answered(alloc, &mut server, example, *piece)?;
+    }
+    Ok(are_so)
+}
+
 #[test]
 fn clients_are_answered_all_the_same(rt: HostRuntime) -> Result<(), Fail> {
     for example in &EXAMPLES {
-        for piece in pieces(example) {
-            let mut server = new_server(rt.alloc(), example.server)?;
-            assert!(rt;
-                is_answered(rt.alloc(), &mut server, example, *piece)?,
-                "{}",
-                example.name
-            );
-        }
+        assert!(rt; are_answered(rt.alloc(), example)?, "{}", example.name);
     }
     Ok(())
 }
@@ -426,18 +429,24 @@ fn new_table(alloc: Global, items: usize) -> Result<TableStore<FixedHasher>, Sto
     again!(TableStore::new(alloc, items))
 }
 
+/// Whether a client of a server over lru's cache is answered so, however its texts arrive.
+fn are_answered_over_lru(alloc: Global, example: &Example) -> Result<bool, Fail> {
+    let mut are_so = true;
+    for piece in pieces(example) {
+        let store = new_lru(alloc, example.server.items)?;
+        let mut server = server_over(alloc, store, example.server)?;
+        are_so &= is_answered(alloc, &mut server, example, *piece)?;
+    }
+    Ok(are_so)
+}
+
 /// Likewise over lru's cache, except for the examples in which a list has memory for a limited number of keys.
 #[test]
 fn clients_are_answered_all_the_same_over_lru(rt: HostRuntime) -> Result<(), Fail> {
     for example in &EXAMPLES {
-        if example.server.keys != u64::MAX {
-            continue;
-        }
-        for piece in pieces(example) {
-            let store = new_lru(rt.alloc(), example.server.items)?;
-            let mut server = server_over(rt.alloc(), store, example.server)?;
+        if example.server.keys == u64::MAX {
             assert!(rt;
-                is_answered(rt.alloc(), &mut server, example, *piece)?,
+                are_answered_over_lru(rt.alloc(), example)?,
                 "{}",
                 example.name
             );
@@ -446,18 +455,24 @@ fn clients_are_answered_all_the_same_over_lru(rt: HostRuntime) -> Result<(), Fai
     Ok(())
 }
 
+/// Whether a client of a server over a table is answered so, however its texts arrive.
+fn are_answered_over_a_table(alloc: Global, example: &Example) -> Result<bool, Fail> {
+    let mut are_so = true;
+    for piece in pieces(example) {
+        let store = new_table(alloc, example.server.items)?;
+        let mut server = server_over(alloc, store, example.server)?;
+        are_so &= is_answered(alloc, &mut server, example, *piece)?;
+    }
+    Ok(are_so)
+}
+
 /// Likewise over a table.
 #[test]
 fn clients_are_answered_all_the_same_over_a_table(rt: HostRuntime) -> Result<(), Fail> {
     for example in &EXAMPLES {
-        if example.server.keys != u64::MAX {
-            continue;
-        }
-        for piece in pieces(example) {
-            let store = new_table(rt.alloc(), example.server.items)?;
-            let mut server = server_over(rt.alloc(), store, example.server)?;
+        if example.server.keys == u64::MAX {
             assert!(rt;
-                is_answered(rt.alloc(), &mut server, example, *piece)?,
+                are_answered_over_a_table(rt.alloc(), example)?,
                 "{}",
                 example.name
             );

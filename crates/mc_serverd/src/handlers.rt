@@ -43,10 +43,11 @@ impl<S: Store + Drop> ServerHandler<S> {
         answer: usize,
         reserve: usize,
     ) -> Result<Self, AllocError> {
+        let piece = Vec::from_elem(alloc, 0, PIECE_LEN)?;
         Ok(ServerHandler {
             server,
             counts,
-            piece: Vec::from_elem(alloc, 0, PIECE_LEN)?,
+            piece,
             watch: Watch::new(AnswerLimit { bytes: answer }),
             too_large: OncePerSecond::new(),
             reserve,

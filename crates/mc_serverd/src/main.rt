@@ -81,15 +81,17 @@ where
         return check(rt, &options);
     }
     let is_read = is_read(rt, options.log.is_any());
-    let operators = Operators::new(rt, alloc, &options.admin).map_err(|error| Failure::at(
-        rt,
-        error,
-        options.admin.listen.unwrap_or(""),
-        is_read,
-    ))?;
-    let logged = LoggingRuntime::new(rt, PROGRAM, options.log);
-    let served = listen_and_serve(&logged, alloc, &options, operators, is_read);
-    served.map_err(|error| Failure::at(rt, error, options.listen, is_read))
+    match Operators::new(rt, alloc, &options.admin) {
+        Ok(operators) => {
+            let logged = LoggingRuntime::new(rt, PROGRAM, options.log);
+            let served = listen_and_serve(&logged, alloc, &options, operators, is_read);
+            served.map_err(|error| Failure::at(rt, error, options.listen, is_read))
+        }
+        Err(error) => {
+            let listen = options.admin.listen.unwrap_or("");
+            Err(Failure::at(rt, error, listen, is_read))
+        }
+    }
 }
 
 /// Listens, reports how much memory it may take if its operator reads that, and serves.

@@ -87,17 +87,13 @@ impl<'a, S: Store + Drop> ServerLoop<'a, S> {
     {
         let service = settings.service;
         let room = room_beside(operators.files());
+        let clients = Clients::new(alloc, MAX_CONNECTIONS, service.terms.idle)?;
+        let other = counts.clone()?;
         Ok(ServerLoop {
+            handler: ServerHandler::new(alloc, server, other, service.answer, service.reserve)?,
             alloc,
             listen,
-            handler: ServerHandler::new(
-                alloc,
-                server,
-                counts.clone()?,
-                service.answer,
-                service.reserve,
-            )?,
-            clients: Clients::new(alloc, MAX_CONNECTIONS, service.terms.idle)?,
+            clients,
             operators,
             counts,
             settings: *settings,

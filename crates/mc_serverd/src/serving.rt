@@ -95,17 +95,17 @@ fn new_store<R: RandomSource>(
     match kind {
         StoreKind::Table => {
             let hasher = SecretState::new(rt).map_err(|_| NO_SEED)?;
-            let store = TableStore::with_hasher(alloc, items, hasher).map_err(
-                |_| ServeError::Memory,
-            )?;
-            Ok(ChosenStore::Table(store))
+            match TableStore::with_hasher(alloc, items, hasher) {
+                Ok(store) => Ok(ChosenStore::Table(store)),
+                Err(_) => Err(ServeError::Memory),
+            }
         }
         StoreKind::Lru => {
             let hasher = RandomState::new(rt).map_err(|_| NO_SEED)?;
-            let store = LruStore::with_hasher(alloc, items, hasher).map_err(
-                |_| ServeError::Memory,
-            )?;
-            Ok(ChosenStore::Lru(store))
+            match LruStore::with_hasher(alloc, items, hasher) {
+                Ok(store) => Ok(ChosenStore::Lru(store)),
+                Err(_) => Err(ServeError::Memory),
+            }
         }
     }
 }

@@ -49,7 +49,7 @@ pub fn command<'a>(alloc: Global) -> Result<Command<'a>, AllocError> {
             "Plays a script on standard input, of a memcached server or of a pool, and prints what its clients are sent",
         )
         .after_help(
-            "The line 'drain <moment>' of a pool's script does all that is left to do, at that second. The line 'restart <server>' lets a server begin anew with nothing, and 'proxyrestart <proxy>' a proxy without its clients. The line 'losses missed', before its first event, makes a lost get a miss",
+            "The line 'drain <moment>' of a pool's script does all that is left to do, at that second. The line 'restart <server>' lets a server begin anew with nothing, and 'proxyrestart <proxy>' a proxy without its clients. With several proxies an event names a link by '<proxy>:<server>'. The line 'losses missed', before its first event, makes a lost get a miss",
         )
         .arg(
             Arg::new(alloc, "store")

@@ -18,15 +18,25 @@ pub struct Figures {
 impl Figures {
     /// Feeds a new server the bytes of a client, in the case's pieces.
     pub fn of_run(alloc: Global, load: &Load, case: &Case) -> Result<Figures, ServerError> {
-        let mut served = Served::new(alloc)?;
         let mut figures = Figures {
             fed: 0,
             answered: 0,
         };
-        figures.feed(&mut served, &load.head, case)?;
-        figures.feed_fill(alloc, &mut served, load.fill, case)?;
-        figures.feed(&mut served, &load.tail, case)?;
+        figures.feed_load(alloc, &mut Served::new(alloc)?, load, case)?;
         Ok(figures)
+    }
+
+    /// Feeds all bytes of a client.
+    fn feed_load(
+        &mut self,
+        alloc: Global,
+        served: &mut Served,
+        load: &Load,
+        case: &Case,
+    ) -> Result<(), ServerError> {
+        self.feed(served, &load.head, case)?;
+        self.feed_fill(alloc, served, load.fill, case)?;
+        self.feed(served, &load.tail, case)
     }
 
     /// Feeds bytes in pieces.

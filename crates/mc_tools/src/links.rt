@@ -35,9 +35,8 @@ pub fn measure(rt: &HostRuntime, gets: u64, value: usize, piece: usize) -> anyho
     let batch = gets.min(BATCH);
     let asked = asked(alloc, batch)?;
     let came = came(alloc, batch, value)?;
-    let mut lane = Lane::new(alloc)?;
     let batches = gets.checked_div(batch).unwrap_or(0);
-    let (sent, answered) = lane.play(alloc, batches, &asked, &came, piece)?;
+    let (sent, answered) = Lane::new(alloc)?.play(alloc, batches, &asked, &came, piece)?;
     println!(rt;
         "{gets} gets of {value} bytes, heard in pieces of {piece}: {sent} bytes sent, {answered} answered"
     )?;
@@ -46,11 +45,12 @@ pub fn measure(rt: &HostRuntime, gets: u64, value: usize, piece: usize) -> anyho
 
 impl Lane {
     fn new(alloc: Global) -> anyhow::Result<Lane> {
+        let ring = Ring::new(alloc, &[Address::new(alloc, b"127.0.0.1:11211")?])?;
         let mut link = Link::new(alloc);
         link.back()?;
         Ok(Lane {
             reader: Reader::new(alloc),
-            ring: Ring::new(alloc, &[Address::new(alloc, b"127.0.0.1:11211")?])?,
+            ring,
             link,
             routed: VecDeque::new(alloc),
             requests: Vec::new(alloc),

@@ -18,28 +18,38 @@ type Served = Server<LruStore<FixedHasher>>;
 
 /// Answers the requests of the clients, by this number of servers.
 pub fn play(alloc: Global, servers: u64, inputs: &[Vec<Vec<u8>>]) -> anyhow::Result<Tally> {
-    let mut proxy = opened_proxy(alloc, servers, inputs)?;
-    let mut served = opened_servers(alloc, servers)?;
     let mut outputs = empty_outputs(alloc)?;
-    for _ in 0..u64::MAX {
-        round(&mut proxy, &mut served, &mut outputs)?;
-        if is_quiet(&proxy) {
-            break;
-        }
-    }
+    let mut served = opened_servers(alloc, servers)?;
+    let mut proxy = Proxy::new(alloc, ring_of(alloc, servers)?)?;
+    open(&mut proxy, servers, inputs)?;
+    play_rounds(&mut proxy, &mut served, &mut outputs)?;
     Ok(Tally::of(outputs.as_slice()))
 }
 
-/// A proxy whose links are all up, and which was fed all bytes of the clients.
-fn opened_proxy(alloc: Global, servers: u64, inputs: &[Vec<Vec<u8>>]) -> anyhow::Result<Proxy> {
-    let mut proxy = Proxy::new(alloc, ring_of(alloc, servers)?)?;
+/// Brings this number of links up, and feeds the proxy all bytes of the clients.
+fn open(proxy: &mut Proxy, servers: u64, inputs: &[Vec<Vec<u8>>]) -> Result<(), ProxyError> {
     for place in 0..servers {
         proxy.back(place as usize)?;
     }
     for pieces in inputs {
-        admit(&mut proxy, pieces)?;
+        admit(proxy, pieces)?;
     }
-    Ok(proxy)
+    Ok(())
+}
+
+/// Plays rounds until all clients are answered.
+fn play_rounds(
+    proxy: &mut Proxy,
+    servers: &mut Vec<Served>,
+    outputs: &mut Vec<Vec<u8>>,
+) -> anyhow::Result<()> {
+    for _ in 0..u64::MAX {
+        round(proxy, servers, outputs)?;
+        if is_quiet(proxy) {
+            break;
+        }
+    }
+    Ok(())
 }
 
 /// Admits a client that sends these pieces.

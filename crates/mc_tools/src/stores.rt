@@ -21,29 +21,45 @@ const VALUE: [u8; 100] = [b'x'; 100];
 /// Prints how long gets, sets of stored keys and sets of other keys take. Each is over as many items as the cache's limit:
 /// a list of 1,000, and each hashed store of 1,000 and of 1,000,000.
 pub fn measure(rt: &HostRuntime) -> anyhow::Result<()> {
-    let alloc = rt.alloc();
     let counter = CasCounter::starting_at(0);
-    let list = Cache::new(alloc, ListStore::new(alloc), BUDGET, 1_000, counter);
+    let list = Cache::new(
+        rt.alloc(),
+        ListStore::new(rt.alloc()),
+        BUDGET,
+        1_000,
+        counter,
+    );
     measure_cache(rt, "list", list, 1_000)?;
     for items in [1_000, 1_000_000] {
-        ensure!(is_within_bounds(BUDGET, items), "no limit of items");
-        let lru = Cache::new(alloc, LruStore::new(alloc, items)?, BUDGET, items, counter);
-        measure_cache(rt, "lru", lru, items as u64)?;
-        measure_cache(rt, "table", table(alloc, items)?, items as u64)?;
+        measure_cache(rt, "lru", lru(rt.alloc(), items)?, items as u64)?;
+        measure_cache(rt, "table", table(rt.alloc(), items)?, items as u64)?;
     }
     Ok(())
 }
 
-/// Sets this number of items with a key of 20 bytes and a value of 100 bytes, and prints their cost. A tool that measures
+/// An empty cache of this limit over lru's cache.
+fn lru(alloc: Global, items: usize) -> anyhow::Result<Cache<LruStore<FixedHasher>>> {
+    ensure!(is_within_bounds(BUDGET, items), "no limit of items");
+    let store = LruStore::new(alloc, items)?;
+    Ok(Cache::new(alloc, store, BUDGET, items, CasCounter::starting_at(0)))
+}
+
+/// Sets this number of items with a key of 20 bytes and a value of 100 bytes, and prints how many were stored. A tool that measures
 /// the memory of a process finds the memory of an item by two such runs.
 pub fn hold(rt: &HostRuntime, items: u64) -> anyhow::Result<()> {
     let mut cache = table(rt.alloc(), items.max(1) as usize)?;
-    let mut stored = 0u64;
-    for number in 0..items {
-        stored = stored.saturating_add(u64::from(is_set(&mut cache, &key(rt.alloc(), number)?)?));
-    }
+    let stored = fill(rt.alloc(), &mut cache, items)?;
     println!(rt; "{stored} items are held")?;
     Ok(())
+}
+
+/// Sets this number of items, and returns how many were stored.
+fn fill<S: Store + Drop>(alloc: Global, cache: &mut Cache<S>, items: u64) -> anyhow::Result<u64> {
+    let mut stored = 0u64;
+    for number in 0..items {
+        stored = stored.saturating_add(u64::from(is_set(cache, &key(alloc, number)?)?));
+    }
+    Ok(stored)
 }
 
 /// An empty cache of this limit over a table.
