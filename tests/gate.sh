@@ -42,7 +42,6 @@ add tests/gate/cited.py
 add tests/gate/uncited.py
 add tests/gate/believed.py --check
 add tests/gate/proving.py
-add tests/gate/tutorial.py
 add tests/gate/hashes.py
 add bench/plot.py --check
 add tests/gate/watched.py

@@ -2,8 +2,7 @@
 //!
 //! Without a further argument each case runs at a thousandth of its size, and its line has the number of bytes that were fed and
 //! of those that were answered. With the argument `measure` each case runs at full size, and its line has the speed too. After
-//! each case it runs again at a tenth of the size: the time for a byte should be equal. The argument `ring` measures how fast a
-//! ring finds the owners of keys, and `store` how fast a cache answers over each store.
+//! each case it runs again at a tenth of the size: the time for a byte should be equal.
 //!
 //! `case KIND SIZE PIECE` runs one case alone, and `load KIND SIZE PIECE` only makes what its client would send. So a tool that
 //! counts instructions measures the cost of a request: the difference of two sizes of `case`, less that of `load`.
@@ -12,7 +11,7 @@
 
 use crate::cases::{CASES, Case, Kind};
 use crate::figures::Figures;
-use crate::{links, rings, stores};
+use crate::{held, links};
 use anyhow::{Context, bail};
 use std::env::Args;
 use std::time::Instant;
@@ -26,15 +25,13 @@ pub fn measure(rt: &HostRuntime, arguments: &mut Args) -> anyhow::Result<()> {
         return measure_little(rt);
     };
     match mode.as_str() {
-        "ring" => rings::measure(rt),
-        "store" => stores::measure(rt),
         "link" => play_link(rt, arguments),
-        "hold" => stores::hold(rt, number(arguments, "no items")?),
+        "hold" => held::hold(rt, number(arguments, "no items")?),
         "measure" => run_all(rt, 1, true),
         "case" => run(rt, &case_of(arguments)?, 1, false),
         "load" => load(rt, &case_of(arguments)?),
         _ => bail!(
-            "usage: mc_tools bench [measure | ring | store | hold ITEMS | link GETS SIZE PIECE | case KIND SIZE PIECE | load KIND SIZE PIECE]"
+            "usage: mc_tools bench [measure | hold ITEMS | link GETS SIZE PIECE | case KIND SIZE PIECE | load KIND SIZE PIECE]"
         ),
     }
 }

@@ -96,7 +96,7 @@ impl Figures {
 }
 
 /// A time in nanoseconds, at least 1.
-pub fn nanos(time: Duration) -> u64
+fn nanos(time: Duration) -> u64
     ensures { 0 < result }
 {
     time.as_secs()

@@ -8,15 +8,14 @@
 mod bench;
 mod cases;
 mod figures;
+mod held;
 mod lent;
 mod links;
 mod loads;
 mod read_back;
-mod rings;
 mod served;
 mod single;
 mod spelled_cases;
-mod stores;
 mod tallies;
 mod thread_loads;
 mod threaded;
