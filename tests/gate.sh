@@ -1,5 +1,5 @@
 #!/usr/bin/env bash
-# The merge gate: every proof from nothing, the must-fail edits, tests and programs (`rt ci`), and then the scripts of
+# The merge gate: every proof that is not kept, the must-fail edits, tests and programs (`rt ci`), and then the scripts of
 # tests/gate/ with the programs that were just built. The last line is 'N passed, M failed', the sum of all parts.
 set -u
 shopt -s lastpipe

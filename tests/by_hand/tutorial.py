@@ -6,7 +6,7 @@ Usage: tutorial.py
 The texts, the files that they go to and the commands are read from docs/DEVELOPING.md, steps 1 to 5. The copy has the crate, the crates that it
 uses, their build results, and `prove.py` and `tests/`; it is removed at the end. The change is a definition at the end of a file of specs/, a
 method at the end of a file of src/, whose last `ghost use` line gets a name, and a wrong body that the prover must refuse. `rt fmt` may change
-nothing of it. If nothing is built, as after `rt ci`, the crates are proved from nothing: that takes one and a half minutes.
+nothing of it. If nothing is built, as after `rt ci`, the crates are proved from nothing: that takes two minutes.
 
 It prints the output of a command that fails, and tries nothing after it. The last line is 'N passed, M failed', one for each command.
 """

@@ -10,6 +10,7 @@ use mc_server::ServerError;
 use mc_server_tests::read_so;
 use mc_store::StoreError;
 use mc_text::KeyError;
+use mc_world::WorldError;
 use std::test::Fail;
 
 const OF_KEYS: [(KeyError, &'static str); 5] = [
@@ -54,6 +55,16 @@ const OF_PROXIES: [(ProxyError, &'static str); 7] = [
     (ProxyError::AlreadyThere, "server is in the ring"),
 ];
 
+const OF_WORLDS: [(WorldError, &'static str); 7] = [
+    (WorldError::Memory, "out of memory"),
+    (WorldError::BadWorld, "bad world"),
+    (WorldError::RingFull, "the ring is full"),
+    (WorldError::AlreadyThere, "the server is there already"),
+    (WorldError::NoServer, "no such server"),
+    (WorldError::NoProxy, "no such proxy"),
+    (WorldError::Behind, "the proxy has not learned all servers"),
+];
+
 #[test]
 fn errors_have_texts(rt: HostRuntime) -> Result<(), Fail> {
     let alloc = rt.alloc();
@@ -67,6 +78,7 @@ fn errors_have_texts(rt: HostRuntime) -> Result<(), Fail> {
         read_so(alloc, &[(ReplyError::Memory, "out of memory")])
             && read_so(alloc, &[(ReadError::Memory, "out of memory")])
             && read_so(alloc, &[(RouteError::Memory, "out of memory")])
+            && read_so(alloc, &OF_WORLDS)
     );
     Ok(())
 }

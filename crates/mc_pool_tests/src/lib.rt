@@ -5,7 +5,7 @@
 //!
 //! # Threads
 //!
-//! Tests of a pool on threads: that they run at the same time, and how a run gives up.
+//! Tests of a pool on threads: worked examples over several servers, and a test that their threads run at the same time.
 //!
 //! No clause says that threads run side by side. Here a gate holds each server back until each other server has taken a request.
 #![tactic(auto)]
@@ -18,6 +18,8 @@ mod lent;
 mod marks;
 #[cfg(test)]
 mod pools;
+#[cfg(test)]
+mod proxies;
 #[cfg(test)]
 mod proxy_pumps;
 #[cfg(test)]

@@ -2,7 +2,7 @@
 
 use crate::lent::{Meeting, ShutForOne, Ticks};
 use mc_ring::{Address, Point, Ring, RingError};
-use mc_threads::{Gate, PoolConfig, Ran, ThreadsError, run_threads};
+use mc_threads::{Clock, Gate, PoolConfig, Ran, ThreadsError, run_threads};
 use std::alloc::{AllocError, Global};
 use std::sync::Wait;
 use std::sync::atomic::Ordering;
@@ -17,6 +17,12 @@ const ADDRESSES: [&[u8]; 5] = [
     b"127.0.0.1:11214",
     b"127.0.0.1:11215",
 ];
+
+const ASKED: &[u8] =
+    b"add a 0 0 1\r\nx\r\nadd a 0 0 1\r\ny\r\nappend a 9 9 1\r\nz\r\nreplace b 0 0 1\r\ny\r\nget a\r\ndelete a 0\r\ndelete a\r\n";
+
+const ANSWERED: &[u8] =
+    b"STORED\r\nNOT_STORED\r\nSTORED\r\nNOT_STORED\r\nVALUE a 0 2\r\nxz\r\nEND\r\nDELETED\r\nNOT_FOUND\r\n";
 
 /// The moments of servers' clocks that do not fail.
 const MOMENTS: [Option<u32>; 5] = [Some(100); 5];
@@ -116,6 +122,98 @@ fn ran<R: Threads + Wait + Time + Sync>(
 /// Whether the first client was answered so.
 fn is_answered(ran: &Ran<Ticks>, answer: &[u8]) -> bool {
     matches!(ran.outputs.first(), Some(output) if output.as_slice() == answer)
+}
+
+/// How many moments the clocks gave in all.
+fn moments(ran: &Ran<Ticks>) -> usize {
+    let mut all = 0usize;
+    for clock in &ran.clocks {
+        all = all.saturating_add(clock.given().len());
+    }
+    all
+}
+
+/// Whether a client of this number of servers is answered as it should be. Each request has its moment, and so has each server's `quit`.
+fn is_answered_over<R: Threads + Wait + Time + Sync>(
+    rt: &R,
+    alloc: Global,
+    servers: usize,
+) -> Result<bool, Fail> {
+    let asked = inputs(alloc, 1, 1, ASKED)?;
+    let ring = ring_of(alloc, servers)?;
+    let ran = ran(rt, alloc, ring, &asked, &Meeting::of(1, true))?;
+    Ok(is_answered(&ran, ANSWERED) && moments(&ran) == servers.saturating_add(7))
+}
+
+#[test]
+fn a_dialogue_over_servers(rt: HostRuntime) -> Result<(), Fail> {
+    for servers in [1usize, 2, 5] {
+        assert!(rt;
+            is_answered_over(&rt, rt.alloc(), servers)?,
+            "{servers} servers"
+        );
+    }
+    Ok(())
+}
+
+/// The numbers of replies `VA`, each in the line after its own.
+fn numbers_in(alloc: Global, output: &[u8]) -> Result<Vec<u32>, Fail> {
+    let mut all = Vec::new(alloc);
+    let mut number = 0u32;
+    let mut is_value = false;
+    for &byte in output {
+        if byte == b'\n' {
+            if is_value {
+                all.push(number)?;
+            }
+            is_value = !is_value;
+            number = 0;
+        } else if byte.is_ascii_digit() {
+            number = number
+                .wrapping_mul(10)
+                .wrapping_add(u32::from(byte.wrapping_sub(b'0')));
+        }
+    }
+    Ok(all)
+}
+
+/// Adds the numbers of a client's replies, and returns whether they are 100 and rise.
+fn add_numbers(alloc: Global, all: &mut Vec<u32>, output: &[u8]) -> Result<bool, Fail> {
+    let numbers = numbers_in(alloc, output)?;
+    all.extend_from_slice(numbers.as_slice())?;
+    Ok(numbers.len() == 100 && numbers.as_slice().is_sorted())
+}
+
+/// Whether the numbers of each client rise, and those of all are 1 to 300.
+fn are_counted(alloc: Global, ran: &Ran<Ticks>) -> Result<bool, Fail> {
+    let mut all = Vec::new(alloc);
+    let mut are_so = true;
+    for output in &ran.outputs {
+        are_so &= add_numbers(alloc, &mut all, output.as_slice())?;
+    }
+    all.sort()?;
+    let mut next = 0u32;
+    for number in all.as_slice() {
+        next = next.wrapping_add(1);
+        are_so &= *number == next;
+    }
+    Ok(are_so && next == 300)
+}
+
+#[test]
+fn three_clients_count(rt: HostRuntime) -> Result<(), Fail> {
+    let alloc = rt.alloc();
+    let asked = inputs(alloc, 3, 100, b"ma n N0 J1 v\r\n")?;
+    let ran = ran(
+        &rt,
+        alloc,
+        ring_of(alloc, 1)?,
+        &asked,
+        &Meeting::of(1, true),
+    )?;
+    assert!(rt; are_counted(alloc, &ran)?);
+    assert_eq!(rt; moments(&ran), 301);
+    Ok(())
 }
 
 /// A run of one client over a ring, whose servers wait for each other. Each takes its first request, and `quit`. It returns whether the
