@@ -46,6 +46,11 @@ BEGINNING = "key-00000"
 ANSWERS = {b"g": b"END\r\n", b"s": b"", b"v": b"STORED\r\n"}  # to a line, by its first byte
 
 
+def answer_to(line):
+    """The answer of a played server: also to what a proxy asks before it uses the server."""
+    return b"VERSION 1\r\n" if line == b"version" else ANSWERS[line[:1]]
+
+
 class Speed(NamedTuple):
     """How a played server reads."""
 
@@ -81,7 +86,7 @@ class Played:
         with contextlib.suppress(ConnectionError):
             while piece := link.recv(speed.piece):
                 *lines, rest = (rest + piece).split(b"\r\n")
-                link.sendall(b"".join(ANSWERS[line[:1]] for line in lines))
+                link.sendall(b"".join(answer_to(line) for line in lines))
                 time.sleep(speed.pause)
 
     def __enter__(self):

@@ -123,8 +123,16 @@ def is_default(name, value, unit_text):
         raise Wrong(f"the unit has {environment(unit_text).get(name)!r}")
 
 
+def is_started_again(unit_text):
+    """A program that failed is started again, however often it did."""
+    for key, value in (("Restart", "on-failure"), ("StartLimitIntervalSec", "0")):
+        if line_of(unit_text, key) != value:
+            raise Wrong(f"the unit has {key}={line_of(unit_text, key)}")
+
+
 def checks_of(unit, settings, help_file, wrong):
     unit_text, settings_text, help_text = (file.read_text() for file in (unit, settings, help_file))
+    yield f"{unit.name} starts again", is_started_again, (unit_text,)
     yield f"words of {unit.name}", words_are_taken, (command(unit_text), help_text)
     for name, value in reversed(SETTING.findall(settings_text)):
         yield f"{name}={value} of {settings.name}", words_are_taken, (command(unit_text, [(name, value)]), help_text)

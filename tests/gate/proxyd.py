@@ -31,7 +31,7 @@ from connections import checks_of_connections, fields_of, lines_said, no_client_
 from links import checks_of_links
 from lists import checks_of_lists
 from live_pool import (
-    LOST, QUIET, Played, Pool, all_that_comes, answered_in_time, data_segments, is_asked_and_answers, is_lost_and_refused, is_said,
+    ANSWER, LOST, QUIET, Played, Pool, all_that_comes, answered_in_time, data_segments, is_asked_and_answers, is_lost_and_refused, is_said,
     nothing_comes, nothing_is_said, stored,
 )  # fmt: skip
 from rings import Ring, hash_of
@@ -301,12 +301,15 @@ def idle_before_a_server_that_was_killed():
 def a_strange_reply_is_said():
     with Played() as pool, pool.connected() as client:
         address = pool.servers[0].address
+        is_asked_and_answers(pool.links[0], client, b"a")
         pool.links[0].sendall(b"END\r\n")
         is_said(pool, f"{address} lost: strange reply")
-        pool.lost(0, client)
-        nothing_is_said(pool)  # It is connected, and has not answered yet.
-        is_asked_and_answers(pool.links[0], client, b"a")
-        is_said(pool, f"{address} back")
+        with pool.servers[0].accept(b"") as link:
+            nothing_is_said(pool)  # It is connected, and has not answered yet.
+            asked(client, b"get a\r\n", LOST)
+            link.sendall(ANSWER)
+            is_said(pool, f"{address} back")
+            is_asked_and_answers(link, client, b"a")
 
 
 def a_server_that_takes_no_connection_is_said():
@@ -356,20 +359,23 @@ def a_join_that_is_refused_is_said_and_tried_again():
         words = ["--join", joins, "--join-after", "2"]
         proxy = stack.enter_context(Proxy(PROXY.path, addresses, words, stderr=subprocess.PIPE))
         first = stack.enter_context(proxy.connected())
+        for server in servers[:60]:
+            stack.enter_context(server.accept())
         is_served(first)
         allow_memory(proxy, proxy.memory("VmSize"))
         second = stack.enter_context(proxy.connected())
         is_said(proxy, f"{joins} not joined: out of memory")
         allow_memory(proxy, resource.RLIM_INFINITY)
         is_served(second)
-        is_served(stack.enter_context(proxy.connected()))
+        third = stack.enter_context(proxy.connected())
+        link = stack.enter_context(servers[60].accept())
+        is_served(third)
         is_said(proxy, f"{joins} joined")
-        key = Ring([*addresses, joins]).key(60)
-        is_asked_and_answers(stack.enter_context(servers[60].accept()), first, key)
+        is_asked_and_answers(link, first, Ring([*addresses, joins]).key(60))
 
 
 def at_most_one_line_is_said_in_a_second():
-    """Of a server that answers once each time that it is connected, and loses its link by its next bytes."""
+    """Of a server that answers each time that it is connected, and loses its link by its next bytes."""
     with Played() as pool, pool.connected() as client:
         address, begun = pool.servers[0].address, time.monotonic()
         while time.monotonic() < begun + 4:
@@ -549,6 +555,7 @@ def strange_bytes_lose_the_link():
 
 def bytes_that_nobody_awaits_lose_the_link():
     with Played(2) as pool, pool.connected() as client:
+        is_asked_and_answers(pool.links[0], client, pool.ring.key(0))
         pool.links[0].sendall(b"END\r\n")
         is_asked_and_answers(pool.links[1], client, pool.ring.key(1))
         pool.lost(0, client)
@@ -627,6 +634,32 @@ def a_server_that_reads_nothing_is_waited_for():
             pool.links[0].sendall(b"END\r\n" if begins == get else told)
         want((received(client, 40 * len(told)), received(late, 5)), (told * 40, b"END\r\n"))
         sender.join()
+
+
+def who_waits_for_a_slow_server_costs_little():
+    """A client's request has 30,000 keys, of which the last belongs to a server that reads nothing. While it waits, each further byte of the client
+    is an event, for which no key is hashed. Once that link is lost, the request goes on, and so does one whose client has ended its input meanwhile."""
+    with Played(2) as pool, pool.connected() as greedy, pool.connected() as client, pool.connected() as half:
+        mine, others = ([bytes([byte]) for byte in range(97, 123) if pool.ring.owner(bytes([byte])) == place][0] for place in (0, 1))
+        put = stored(mine, b"v" * 1_000_000)[0]
+        greedy.settimeout(1)
+        with contextlib.suppress(TimeoutError):
+            while True:
+                greedy.sendall(put)
+        client.sendall(b"get " + (others + b" ") * 30_000 + mine + b"\r\n")
+        half.sendall(b"get %s\r\nversion\r\n" % mine)
+        nothing_comes(client)
+        half.shutdown(socket.SHUT_WR)
+        before = pool.processor_time()
+        for _ in range(500):
+            client.sendall(b"m")
+            time.sleep(0.002)
+        want_at_most(pool.processor_time() - before, 0.5)
+        nothing_comes(pool.links[1])
+        pool.links[0].close()
+        get = b"get %s\r\n" % others
+        want(received(pool.links[1], 100 * len(get)), get * 100)
+        want(received_to_the_end(half), LOST + b"VERSION 1.6.0\r\n")
 
 
 def each_who_waits_for_a_slow_server_is_served():
@@ -803,6 +836,7 @@ def checks():
         a_slow_server_that_answers_is_kept,
         a_report_is_said,
         a_server_that_reads_nothing_is_waited_for,
+        who_waits_for_a_slow_server_costs_little,
         each_who_waits_for_a_slow_server_is_served,
         a_slow_reader_is_waited_for,
         one_who_asks_too_much_waits,

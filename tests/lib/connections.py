@@ -306,11 +306,6 @@ STRANGERS = {
     )},
     "post of an address": (b"POST http://a:11211/ HTTP/1.1\r\nContent-Length: 25\r\n\r\n", HTTP),
     "options of all": (b"OPTIONS * HTTP/1.1\r\n\r\n", HTTP),
-    **{f"{line.decode()}": (line + b"\r\nContent-Length: 25\r\n\r\n", HTTP) for line in (
-        b"PURGE / HTTP/1.1", b"propfind /a HTTP/1.1", b"CONNECT a:11211 HTTP/1.1", b"TRACE *  HTTP/1.0  ", b"PRI * HTTP/2.0",
-        b"GET * HTTP/1.1", b"x HTTP/", b"HTTP/1.1",
-    )},
-    "purge of many bytes": (b"PURGE /" + b"a" * 300 + b" HTTP/1.1\n\n", HTTP),
     "binary get": (b"\x80\x00\x00\x01" + bytes(19) + b"k", BINARY),
     "tls hello": (b"\x16\x03\x01\x02\x00\x01\x00\x01\xfc\x03\x03\r\n", TLS),
 }  # fmt: skip
@@ -327,15 +322,28 @@ TEXTS = {
     "http as a key": (b"get http\r\n", b"END\r\n"),
     "an empty line": (b"\n", b"ERROR\r\n"),
     "a command that ends in a version": (b"get / HTTP/1.1\r\n", b"END\r\n"),
-    "a version in small letters": (b"PURGE / http/1.1\r\n", b"ERROR\r\n"),
-    "half a version": (b"PURGE / HTTP\r\n", b"ERROR\r\n"),
-    "a version before another word": (b"HTTP/1.1 200 OK\r\n", b"ERROR\r\n"),
-    "a version on the second line": (b"mn\r\nPURGE / HTTP/1.1\r\nmn\r\n", b"MN\r\nERROR\r\nMN\r\n"),
-    "a command behind empty lines": (b"\r\n \nget a\r\nx HTTP/1.1\r\n", b"ERROR\r\n" * 2 + b"END\r\nERROR\r\n"),
+    "another method": (b"PURGE / HTTP/1.1\r\nmn\r\n", b"ERROR\r\nMN\r\n"),
+    "an answer of HTTP": (b"HTTP/1.1 200 OK\r\n", b"ERROR\r\n"),
+    "a request without a host": (b"PURGE / HTTP/1.0\r\nContent-Length: 4\r\n\r\nmn\r\n", b"ERROR\r\n" * 3 + b"MN\r\n"),
+    "a host without a colon": (b"host a\r\nHosts: a\r\n", b"ERROR\r\n" * 2),
+    "a host as a key": (b"get Host:\r\n", b"END\r\n"),
+    "a host in a data block": (b"set a 0 0 9\r\nHost: a\r\n\r\nget a\r\n", b"STORED\r\nVALUE a 0 9\r\nHost: a\r\n\r\nEND\r\n"),
 }
 
-# Empty lines, which a stranger's bytes may follow: each is answered by itself.
-EMPTY_LINES = [b"\r\n", b"\n", b"  \r\n"]
+# Lines in front of one that begins with `Host:`, and that line.
+HOSTS = {
+    **{f"{line.decode()}": (line + b"\r\n", b"Host: a\r\n") for line in (
+        b"touch / HTTP/1.1", b"gets / HTTP/1.1", b"get / HTTP/1.1", b"version / HTTP/1.1", b"mn / HTTP/1.1", b"delete / HTTP/1.1",
+        b"PURGE / HTTP/1.1", b"PRI * HTTP/2.0", b"TRACE *  HTTP/1.0  ", b"GET * HTTP/1.1",
+    )},
+    "a host on the first line": (b"", b"Host: a\r\n"),
+    "a host in small letters": (b"PURGE / HTTP/1.1\n", b"host: a\n"),
+    "a host in capitals": (b"PURGE / HTTP/1.1\r\n", b"HOST:a\r\n"),
+    "a host behind spaces": (b"mn\r\n", b"  Host: a\r\n"),
+    "a host behind other headers": (b"mn / HTTP/1.1\r\nAccept: */*\r\nUser-Agent: a b\r\n", b"Host: a\r\n"),
+    "a host behind empty lines": (b"\r\n\n  \r\nPURGE / HTTP/1.1\r\n", b"Host: a\r\n"),
+    "a host behind a data block": (b"set b 0 0 4\r\nHost\r\n", b"Host: a\r\n"),
+}  # fmt: skip
 
 
 def answered_to(client, pieces):
@@ -367,18 +375,21 @@ def a_stranger_is_turned_away(start, name, sent, told):
             want(program.ended(), (0, b""))
 
 
-def a_stranger_behind_empty_lines_is_turned_away(start, name, sent):
-    """With these lines in one piece nothing is answered. If they arrive before it, each is answered, and no line of the stranger."""
-    sent += b"set pwn 0 0 4\r\nhack\r\n"
-    for apart in (False, True):
-        with start("--accept 2") as program, program.connected() as other:
+def a_host_ends_a_connection(start, name, before, host):
+    """Whole and in bytes: neither its line nor anything after it is executed, its address is reported, and others are served. What is
+    answered is the beginning of the answers to the lines in front of it."""
+    sent = before + host + b"Content-Length: 25\r\n\r\nset pwn 0 0 4\r\nhack\r\n"
+    for pieces in ([sent], [sent[at : at + 1] for at in range(len(sent))]):
+        with start("--accept 3") as program, program.connected() as other:
             is_served(other)
+            with program.connected() as usual:
+                usual.sendall(before)
+                usual.shutdown(socket.SHUT_WR)
+                answers = received_to_the_end(usual)
             with program.connected() as stranger:
                 port = stranger.getsockname()[1]
-                for line in EMPTY_LINES if apart else []:
-                    asked(stranger, line, b"ERROR\r\n")
-                pieces = [sent[at : at + 1] for at in range(len(sent))] if apart else [b"".join(EMPTY_LINES) + sent]
-                want(answered_to(stranger, pieces), b"")
+                came = answered_to(stranger, pieces)
+                want(answers[: len(came)], came)
             want(lines_said(program), [f"{name}: {HOST}:{port} refused: {HTTP}"])
             asked(other, b"get pwn\r\nquit\r\n", b"END\r\n")
             want(received_to_the_end(other), b"")
@@ -406,12 +417,12 @@ def who_may_be_a_stranger_is_waited_for(start):
             is_served(other)
             asked(slow, b"ET a\r\nversion\r\n", b"ERROR\r\nVERSION 1.6.0\r\n")
         with program.connected() as slow:
-            slow.sendall(b"\r\nPURGE / HTTP")
+            slow.sendall(b"\r\nHost")
             want(received(slow, 7), b"ERROR\r\n")
             want(select.select([slow], [], [], 0.3)[0], [])
             is_served(other)
-            asked(slow, b"\r\nversion\r\n", b"ERROR\r\nVERSION 1.6.0\r\n")
-        for sent in (b"", b"G", b"GET ", b"OPTIONS", b"PURGE / HTTP/1.1"):
+            asked(slow, b" a\r\nversion\r\n", b"ERROR\r\nVERSION 1.6.0\r\n")
+        for sent in (b"", b"G", b"GET ", b"OPTIONS", b"Host: a"):
             with program.connected() as ended:
                 ended.sendall(sent)
                 time.sleep(0.05)
@@ -420,6 +431,17 @@ def who_may_be_a_stranger_is_waited_for(start):
             is_served(other)
         with start("--idle 1") as closing, closing.connected() as silent:
             want(answered_to(silent, [b"GET "]), b"")
+
+
+def bytes_behind_an_urgent_one_are_read(start):
+    """A read ends in front of an urgent byte, and the bytes behind it are read nevertheless, whole and later ones."""
+    with start() as program, program.connected() as client:
+        for _ in range(20):
+            client.sendall(b"mn\r\nmn")
+            client.send(b"!", socket.MSG_OOB)
+            client.sendall(b"\r\nmn\r\n")
+            want(received(client, 12), b"MN\r\n" * 3)
+            is_served(client)
 
 
 def strangers_are_told_once_in_a_second(start, name):
@@ -512,12 +534,13 @@ def checks_of_connections(start, program, own, more_dialogues={}, full="too many
         who_sends_without_end_holds_nobody_up,
         idle_clients_are_closed,
         who_may_be_a_stranger_is_waited_for,
+        bytes_behind_an_urgent_one_are_read,
     ):
         yield check.__name__, check, (start,)
     for stranger, (sent, told) in STRANGERS.items():
         yield f"stranger, {stranger}", a_stranger_is_turned_away, (start, program, sent, told)
-    for line in (b"POST / HTTP/1.1\r\n\r\n", b"PRI * HTTP/2.0\r\n\r\nSM\r\n\r\n"):
-        yield f"behind empty lines, {line.decode().split()[0]}", a_stranger_behind_empty_lines_is_turned_away, (start, program, line)
+    for text, (before, host) in HOSTS.items():
+        yield f"host, {text}", a_host_ends_a_connection, (start, program, before, host)
     for text, (sent, answer) in TEXTS.items():
         yield f"no stranger, {text}", a_text_is_none_of_a_stranger, (start, sent, answer)
     yield strangers_are_told_once_in_a_second.__name__, strangers_are_told_once_in_a_second, (start, program)

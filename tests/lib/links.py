@@ -14,8 +14,8 @@ import lookups
 from checks import PATIENCE, asked, is_served, received, received_to_the_end, want, want_at_most
 from connections import fields_of, lines_said
 from live_pool import (
-    LOST, QUIET, SECONDS_TO_RETURN, Played, Pool, answered_in_time, bytes_before_a_reset, is_asked_and_answers, is_lost_and_refused, is_said,
-    nothing_comes, nothing_is_said, stored,
+    ANSWER, LOST, QUIET, Played, Pool, all_that_comes, answered_in_time, bytes_before_a_reset, is_asked_and_answers, is_lost_and_refused,
+    is_said, nothing_comes, nothing_is_said, stored,
 )  # fmt: skip
 from losses import checks_of_losses
 from rings import Ring
@@ -23,7 +23,6 @@ from servers import HOST, Proxy, Server, connected, free_port
 
 LATE = 0.4  # seconds of a --timeout that a check waits for
 USUAL_TIMEOUT = 1  # seconds of the --timeout that a proxy has without the word
-UNASKED = 10  # seconds after which a server that has lost commands, and that gets no requests, is up
 KEEPALIVE = {  # a second to the first question, between two, their number, and milliseconds in all
     "a link": (5, 1, 5, 10_000),
     "a client": (30, 10, 3, 60_000),
@@ -76,23 +75,112 @@ def what_is_undelivered_dies_with_its_link():
 # Servers that are late.
 
 
-def a_server_that_sends_is_not_late():
-    """A reply takes several times as long as a server may be silent, and its bytes arrive one by one. The next reply stops in the middle: its link
-    is lost once nothing has arrived for that long."""
+def a_large_reply_may_take_long():
+    """Its bytes arrive at more than 64 KB a second, and take several times as long as the timeout. The next reply stops in the middle: its link is
+    lost a timeout after the last one was taken, and a millisecond more for each 64 bytes."""
     with Played(1, ["--timeout", str(int(LATE * 1000))]) as pool, pool.connected() as client:
         [link] = pool.links
-        _, _, get, shown = stored(b"a", b"value")
-        client.sendall(get * 2)
-        want(received(link, 2 * len(get)), get * 2)
-        for byte in shown:
-            link.sendall(bytes([byte]))
-            time.sleep(LATE / 5)
-        want(received(client, len(shown)), shown)
-        link.sendall(shown[:9])
+        _, _, get, shown = stored(b"a", b"v" * 500_000)
+        client.sendall(get)
+        want(received(link, len(get)), get)
+        for place in range(0, len(shown), 50_000):
+            link.sendall(shown[place : place + 50_000])
+            time.sleep(LATE / 2)
+        want(received(client, len(shown)) == shown, True)
         begun = time.monotonic()
+        client.sendall(get)
+        want(received(link, len(get)), get)
+        link.sendall(shown[:64])
         want(received(client, len(LOST)), LOST)
         want(LATE - 0.01 < time.monotonic() - begun < LATE + 1.5, True)
         is_said(pool, f"{pool.servers[0].address} lost: no reply in time")
+
+
+def a_server_that_drips_is_late():
+    """It sends a byte of its reply again and again, each in time, and is lost after one timeout."""
+    with Played(1, ["--timeout", "500"]) as pool, pool.connected() as client:
+        [link] = pool.links
+        _, _, get, shown = stored(b"a", b"v" * 100)
+        client.sendall(get)
+        want(received(link, len(get)), get)
+        begun = time.monotonic()
+        for byte in shown:
+            with contextlib.suppress(ConnectionError):
+                link.sendall(bytes([byte]))
+            if select.select([client], [], [], 0.3)[0]:
+                break
+        want(received(client, len(LOST)), LOST)
+        want(0.49 < time.monotonic() - begun < 1.5, True)
+        is_said(pool, f"{pool.servers[0].address} lost: no reply in time")
+
+
+def no_command_is_older_than_four_timeouts():
+    """A server answers one command in each three quarters of a timeout, and always gets the next: no reply is late by itself, but the commands are
+    more and more behind. Its link is lost before one has waited for four timeouts."""
+    with Played(1, ["--timeout", str(int(LATE * 1000))]) as pool, pool.connected() as client:
+        [link] = pool.links
+        client.sendall(b"get a\r\n" * 20)
+        begun = time.monotonic()
+        want(received(link, 7 * 20), b"get a\r\n" * 20)
+        answered = 0
+        while not select.select([client], [], [], LATE * 0.75)[0] or client.recv(len(LOST), socket.MSG_PEEK)[:5] == b"END\r\n":
+            with contextlib.suppress(ConnectionError):
+                link.sendall(b"END\r\n")
+            answered += len(all_that_comes(client)) // 5
+            want_at_most(time.monotonic() - begun, 4 * LATE)
+        want(received(client, (20 - answered) * len(LOST)), LOST * (20 - answered))
+        want(time.monotonic() - begun > 2 * LATE - 0.01, True)
+        is_said(pool, f"{pool.servers[0].address} lost: no reply in time")
+
+
+# Servers that do not answer before they are used.
+
+
+def a_server_that_answers_nobody_is_down():
+    """Its system accepts the connection. Requests for its keys are lost at once, from the first client on, and others are answered."""
+    with contextlib.ExitStack() as stack:
+        mute, other = (stack.enter_context(Played.Server()) for _ in range(2))
+        addresses = [mute.address, other.address]
+        proxy = stack.enter_context(proxy_in_front([], addresses))
+        links = [stack.enter_context(server.accept(answer)) for server, answer in ((mute, b""), (other, ANSWER))]
+        client = stack.enter_context(proxy.connected())
+        mine, others = (Ring(addresses).key(place) for place in (0, 1))
+        is_served(client)
+        is_said(proxy, f"{mute.address} refused: no answer")
+        with mute.accept(ANSWER[:-1]) as link:
+            for _ in range(3):
+                begun = time.monotonic()
+                asked(client, b"get %s\r\n" % mine, LOST)
+                want_at_most(time.monotonic() - begun, LATE)
+                is_asked_and_answers(links[1], client, others)
+            nothing_is_said(proxy)
+            link.sendall(ANSWER[-1:])
+            is_said(proxy, f"{mute.address} back")
+            is_asked_and_answers(link, client, mine)
+
+
+def what_does_not_answer_as_a_server_is_refused():
+    """By another line, by more than the line, and by a line that is too long. It is asked again after a second."""
+    with Played(2) as pool, pool.connected() as client:
+        odd = pool.servers[0]
+        pool.links[0].close()
+        is_said(pool, f"{odd.address} lost: connection ended")
+        for answer in (b"ERROR\r\n", b"VERSION 1\r\nEND\r\n", b"VERSION 1\n", b"VERSION " + b"1" * 119 + b"\r\n", b"\0"):
+            with odd.accept(answer) as link:
+                want(received_or_reset(link), b"")
+            asked(client, b"get %s\r\n" % pool.ring.key(0), LOST)
+            is_asked_and_answers(pool.links[1], client, pool.ring.key(1))
+        is_said(pool, f"{odd.address} refused: strange reply")
+        with odd.accept(b"VERSION " + b"1" * 118 + b"\r\n") as link:
+            is_said(pool, f"{odd.address} back")
+            is_asked_and_answers(link, client, pool.ring.key(0))
+
+
+def received_or_reset(link):
+    """What arrives before a connection is over."""
+    with contextlib.suppress(ConnectionResetError):
+        return received_to_the_end(link)
+    return b""
 
 
 def a_hung_server_is_given_up_without_words():
@@ -123,8 +211,8 @@ def shown_up(port, server):
     return figure(port, server, "up") == 1
 
 
-def a_hung_server_is_down_until_it_replies():
-    """Its system accepts each connection. It is lost once, and up again with its first reply."""
+def a_hung_server_is_down_until_it_answers():
+    """Its system accepts each connection. After one timeout requests for its keys are lost at once, and it is used again within a second."""
     port = free_port()
     with Pool(["--timeout", str(int(LATE * 1000)), "--admin", f"{HOST}:{port}"]) as pool, pool.connected() as client:
         hung, get = pool.servers[0], b"get %s\r\n" % pool.ring.key(0)
@@ -135,18 +223,21 @@ def a_hung_server_is_down_until_it_replies():
         is_said(pool, f"{hung.address} lost: no reply in time")
         deadline = time.monotonic() + 5
         while time.monotonic() < deadline:
+            begun = time.monotonic()
             asked(client, get, LOST)
+            want_at_most(time.monotonic() - begun, LATE / 2)
             want(shown_up(port, hung.address), False)
             time.sleep(QUIET)
+        is_said(pool, f"{hung.address} refused: no answer")
         nothing_is_said(pool)
         hung.process.send_signal(signal.SIGCONT)
-        answered_in_time(client, get, b"END\r\n")
+        answered_in_time(client, get, b"END\r\n", 1)
         is_said(pool, f"{hung.address} back")
         want(shown_up(port, hung.address), True)
 
 
-def a_server_that_nobody_asks_is_up_once_it_is_connected():
-    """The proxy does not report that it is back: it has not replied."""
+def a_server_is_back_though_nobody_asks():
+    """Once it has answered the proxy."""
     port = free_port()
     with Pool(["--admin", f"{HOST}:{port}"]) as pool, pool.connected() as client:
         asked(client, b"get %s\r\n" % pool.ring.key(0), b"END\r\n")
@@ -155,44 +246,9 @@ def a_server_that_nobody_asks_is_up_once_it_is_connected():
         is_lost_and_refused(pool, gone)
         want(shown_up(port, gone), False)
         pool.restart(0)
-        deadline = time.monotonic() + PATIENCE
-        while not shown_up(port, gone):
-            want(time.monotonic() < deadline, True)
-            time.sleep(QUIET)
-        nothing_is_said(pool)
-
-
-def a_server_that_lost_a_command_is_up_once_nobody_asks():
-    """Two servers lose a command. One was killed and is started again, and gets no requests: it is up ten seconds after it is connected. The other
-    is stopped, and gets one every two seconds: it stays down, though its system accepts each connection."""
-    port = free_port()
-    with Pool(["--timeout", str(int(LATE * 1000)), "--admin", f"{HOST}:{port}"]) as pool, pool.connected() as client:
-        hung, killed = pool.servers
-        ask_hung, ask_killed = (b"get %s\r\n" % pool.ring.key(place) for place in (0, 1))
-        asked(client, ask_hung + ask_killed, b"END\r\n" * 2)
-        for server in pool.servers:
-            server.process.send_signal(signal.SIGSTOP)
-        client.sendall(ask_killed)
-        nothing_comes(client)
-        killed.stop()
-        want(received(client, len(LOST)), LOST)
-        begun = time.monotonic()
-        pool.restart(1)
-        asks = 0
-        while not shown_up(port, killed.address):
-            want_at_most(time.monotonic() - begun, UNASKED + SECONDS_TO_RETURN)
-            if time.monotonic() >= begun + 2 * asks:
-                asked(client, ask_hung, LOST)
-                asks += 1
-            want(shown_up(port, hung.address), False)
-            time.sleep(QUIET)
-        want(time.monotonic() - begun > UNASKED - 0.01, True)
-        want(shown_up(port, hung.address), False)
-        asked(client, ask_killed, b"END\r\n")
-        want(shown_up(port, killed.address), True)
-        hung.process.send_signal(signal.SIGCONT)
-        answered_in_time(client, ask_hung, b"END\r\n")
-        want(shown_up(port, hung.address), True)
+        is_said(pool, f"{gone} back")
+        want(shown_up(port, gone), True)
+        asked(client, b"get %s\r\n" % pool.ring.key(0), b"END\r\n")
 
 
 def a_server_that_was_away_is_used_soon():
@@ -369,11 +425,14 @@ def checks_of_links():
     for check in (
         a_link_that_is_given_up_is_reset,
         what_is_undelivered_dies_with_its_link,
-        a_server_that_sends_is_not_late,
+        a_large_reply_may_take_long,
+        a_server_that_drips_is_late,
+        no_command_is_older_than_four_timeouts,
+        a_server_that_answers_nobody_is_down,
+        what_does_not_answer_as_a_server_is_refused,
         a_hung_server_is_given_up_without_words,
-        a_hung_server_is_down_until_it_replies,
-        a_server_that_nobody_asks_is_up_once_it_is_connected,
-        a_server_that_lost_a_command_is_up_once_nobody_asks,
+        a_hung_server_is_down_until_it_answers,
+        a_server_is_back_though_nobody_asks,
         a_server_that_was_away_is_used_soon,
         a_link_that_nobody_needs_is_ended_and_nothing_is_lost,
         the_system_looks_for_peers,

@@ -14,6 +14,7 @@ from rings import Ring
 from servers import HOST, Proxy, Server, free_port
 
 LOST = b"SERVER_ERROR link lost\r\n"
+ASKED, ANSWER = b"version\r\n", b"VERSION 1\r\n"  # what a proxy asks a server before it is used, and what a server answers
 SECONDS_TO_RETURN = 5  # a lost link is tried again at once, after 0.1 to 0.2 seconds, and then each time after twice as long
 QUIET = 0.1  # seconds in which nothing arrives if nothing should
 
@@ -61,8 +62,8 @@ class Pool:
 
 
 class Played(Pool):
-    """Servers that the check plays, and a proxy in front of them that has connected to each: `links` are their connections. It waits for
-    replies for ever, unless its words say otherwise: a check may take its time."""
+    """Servers that the check plays, and a proxy in front of them that has connected to each: `links` are their connections. Each has answered that
+    it is there. The proxy waits for replies for ever, unless its words say otherwise: a check may take its time."""
 
     class Server:
         def __init__(self):
@@ -74,10 +75,13 @@ class Played(Pool):
             self.listener = socket.create_server((HOST, self.port))
             self.listener.settimeout(PATIENCE)
 
-        def accept(self):
+        def accept(self, answer=ANSWER):
+            """The next connection, on which the proxy has asked whether the server is there, and has got this answer."""
             link, _ = self.listener.accept()
             link.setsockopt(socket.IPPROTO_TCP, socket.TCP_NODELAY, 1)
             link.settimeout(PATIENCE)
+            want(received(link, len(ASKED)), ASKED)
+            link.sendall(answer)
             return link
 
         def __enter__(self):
@@ -165,7 +169,7 @@ def is_said(proxy, *lines):
 
 def is_lost_and_refused(proxy, server):
     """Checks that a server is reported as lost, and then as refusing. The server has answered before: a connection that its process has
-    not taken yet is reset, and not ended. So is the next one, which its system may have taken while the process ended."""
+    not taken yet is reset, and not ended. So is the next one, which its system may have taken while the process ended, or it ends unanswered."""
     line, said = b"", []
     while f"mc_proxyd: {server} refused: connection refused\n" not in said:
         stream = proxy.process.stderr
@@ -178,7 +182,7 @@ def is_lost_and_refused(proxy, server):
             line = b""
     first, *more = said
     want(first, f"mc_proxyd: {server} lost: connection ended\n")
-    reset = [f"mc_proxyd: {server} {what}: connection reset\n" for what in ("lost", "refused")]
+    reset = [f"mc_proxyd: {server} {what}\n" for what in ("lost: connection reset", "refused: connection reset", "refused: connection ended")]
     want([each for each in more if each not in reset], [f"mc_proxyd: {server} refused: connection refused\n"])
 
 

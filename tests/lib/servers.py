@@ -27,16 +27,15 @@ SECONDS_TO_START = 20
 SECONDS_TO_END = 10
 EPHEMERAL = pathlib.Path("/proc/sys/net/ipv4/ip_local_port_range")
 
-POOL = """pool:
-  listen: {listen}
-  hash: md5
-  distribution: ketama
-  timeout: 5000
-  server_retry_timeout: 100
-  backlog: 1024
-  preconnect: true
-  servers:
-"""
+# Of nutcracker's pool, if no others are given.
+SETTINGS = {
+    "hash": "md5",
+    "distribution": "ketama",
+    "timeout": 5000,
+    "server_retry_timeout": 100,
+    "backlog": 1024,
+    "preconnect": "true",
+}
 
 
 def free_port():
@@ -218,9 +217,9 @@ class Server(Listener):
 
 
 class Proxy(Listener):
-    """A proxy in front of the servers of some addresses (`<host>:<port>`), all alike."""
+    """A proxy in front of the servers of some addresses (`<host>:<port>`), all alike. `settings` are nutcracker's, beside SETTINGS."""
 
-    def __init__(self, program, addresses, words=(), limits=(), port=None, on=None, **streams):
+    def __init__(self, program, addresses, words=(), limits=(), port=None, on=None, settings=None, **streams):
         port = port or free_port()
         self.folder = tempfile.TemporaryDirectory()
         self.says_where = not is_nutcracker(program)
@@ -228,8 +227,10 @@ class Proxy(Listener):
             words = ["--listen", address_on(on, port), *words, *addresses]
         else:
             pool = pathlib.Path(self.folder.name) / "pool.yml"
-            pool.write_text(POOL.format(listen=f"{HOST}:{port}") + "".join(f"   - {each}:1\n" for each in addresses))
-            words = ["-c", str(pool), "-a", HOST, "-s", str(free_port())]
+            lines = [f"{name}: {value}" for name, value in {"listen": f"{HOST}:{port}", **SETTINGS, **(settings or {})}.items()]
+            servers = [f" - {each}:1" for each in addresses]
+            pool.write_text("pool:\n" + "".join(f"  {line}\n" for line in [*lines, "servers:", *servers]))
+            words = ["-c", str(pool), "-o", os.devnull, "-a", HOST, "-s", str(free_port())]  # Debian's log is root's alone.
             streams = {"stderr": subprocess.DEVNULL, **streams}
         super().__init__(program, words, port, limits, on=on, **streams)
 

@@ -1,10 +1,5 @@
 pub mod SettledLemmas
-pub mod EndLemmas
-pub mod CommandLemmas
-pub mod LineLemmas
-pub mod StayLemmas
-pub mod SpaceLemmas
-pub mod OnLiterals
 pub mod BindingLemmas
 pub mod ListLemmas
 pub mod ListingLemmas
+pub mod ReadyLemmas

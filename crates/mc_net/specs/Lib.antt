@@ -1,10 +1,10 @@
 pub mod Openings
-pub mod FirstLines
-pub mod FirstWords
-pub mod WordStarts
 pub mod Acceptors
 pub mod Bindings
+pub mod Inputs
 pub mod Keeping
 pub mod AfterPumps
+pub mod ReadyQueues
+pub mod ReadyFields
 pub mod Lists
 pub mod Listings

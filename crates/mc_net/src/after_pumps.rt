@@ -7,12 +7,14 @@ use mc_stream::Pumped;
 /// What is done with a client after its pump.
 #[derive(Clone, Copy, Debug, PartialEq, Eq)]
 pub enum AfterPump {
-    /// It is served again in the next round, even without an event.
+    /// It is served again in its turn, even without an event.
     GoOn,
     /// It waits until it has an event.
     Wait,
     /// It is closed.
     Close,
+    /// It is closed as a stranger that speaks HTTP.
+    TurnAway,
 }
 
 /// Returns what is done with a client whose pump ended so. It is closed if it is over or has failed, and only then.

@@ -5,11 +5,11 @@ ghost use Rattle.mc_net.specs.Lists.{all_shown, count_after, known_of, place_of,
 use crate::acceptors::Backlog;
 use crate::after_pumps::AfterPump;
 use crate::conns::{Known, LIST_LEN, Listed, Owed, conn_of};
-use crate::first_lines::FirstLine;
 use crate::handlers::{Client, Handler};
 use crate::inputs::Readiness;
 use crate::limits::KEPT_ROOM;
 use crate::openings::{Opening, Stranger};
+use crate::ready_queues::ReadyQueue;
 use crate::reports::Report;
 use crate::strangers::{Refusal, opening};
 use mc_program::{EprintSeldom, OncePerSecond, Said, Ticker, earlier};
@@ -27,8 +27,6 @@ struct ClientSlot<K> {
     client: Client<K>,
     /// Whether its first bytes are known not to be a stranger's.
     known: bool,
-    /// Whether it goes on in the next round, even without an event.
-    queued: bool,
     /// Whether it has had an event since the last sweep.
     busy: bool,
     /// The second in which its socket was reported last, or it had pending answers.
@@ -77,10 +75,8 @@ pub struct Clients<K: Drop> {
     slots: Slab<ClientSlot<K>>,
     /// The most clients.
     most: usize,
-    /// The keys of the clients that go on in the next round, even without an event.
-    queue: Vec<usize>,
-    /// The keys of the clients that go on in this round.
-    going_on: Vec<usize>,
+    /// The keys of the clients that are ready, in the order in which they are served. That of a client that was closed may be among them.
+    ready: ReadyQueue,
     /// Whether a client was busy since the last sweep.
     busy: bool,
     /// The seconds after which a client is closed that sent nothing and has no pending answer; 0 for never.
@@ -102,8 +98,7 @@ impl<K: Default + Drop> Clients<K> {
     /// Makes an empty list, with room for `most` clients. A client that is idle for longer than `idle` seconds is closed; 0 for never.
     pub fn new(alloc: Global, most: usize, idle: u64) -> Result<Self, AllocError> {
         Ok(Clients {
-            queue: Vec::with_capacity(alloc, most)?,
-            going_on: Vec::with_capacity(alloc, most)?,
+            ready: ReadyQueue::new(alloc, most)?,
             slots: Slab::with_capacity(alloc, most)?,
             most,
             busy: false,
@@ -139,9 +134,9 @@ impl<K: Default + Drop> Clients<K> {
         }
     }
 
-    /// Returns whether one goes on without an event.
+    /// Returns whether one is ready, so that it is served without an event.
     pub fn goes_on(&self) -> bool {
-        !self.queue.is_empty()
+        self.ready.len() > 0
     }
 
     /// Returns whether a sweep may have work.
@@ -220,24 +215,26 @@ impl<K: Default + Drop> Clients<K> {
         moment: u64,
     ) -> bool {
         let key = self.slots.vacant_key();
+        if key >= self.most {
+            return false;
+        }
         let Some(number) = handler.admit(key) else {
             return false;
         };
-        let both = Interest::READABLE | Interest::WRITABLE;
+        // An event of an urgent byte says that a read may end in front of it.
+        let interest = Interest::READABLE | Interest::WRITABLE | Interest::PRIORITY;
         // A client whose answers may be delayed is served all the same.
         let _ = stream.set_nodelay(true);
-        let registered = registry.register(&mut stream, Token(key), both);
+        let registered = registry.register(&mut stream, Token(key), interest);
         let slot = ClientSlot {
             client: Client {
                 stream,
                 number,
                 ended: false,
                 readiness: Readiness::new(),
-                first: FirstLine::new(),
                 kept: K::default(),
             },
             known: false,
-            queued: false,
             busy: false,
             used: moment,
             since: moment,
@@ -256,36 +253,30 @@ impl<K: Default + Drop> Clients<K> {
         true
     }
 
-    /// Serves the client of an event.
-    pub fn wake<H: Handler<K>>(&mut self, handler: &mut H, event: &Event, moment: u64)
-        requires { moment < 2 ^ 63 }
-    {
+    /// Records an event of a client, which is served in its turn.
+    pub fn wake(&mut self, event: &Event, moment: u64) {
         let Token(key) = event.token();
         if let Some(slot) = self.slots.get_mut(key) {
             slot.client.readiness.note(event);
             slot.used = moment;
-            self.serve(handler, key, moment);
+            self.ready.push(key);
         }
     }
 
-    /// Serves the clients whose budget was used up in the round before.
-    pub fn go_on<H: Handler<K>>(&mut self, handler: &mut H, moment: u64)
+    /// Serves the clients that are ready now, each once, in the order in which they became so. One that becomes ready meanwhile, or whose
+    /// budget is used up, is behind them: it is served by the next call.
+    pub fn serve_ready<H: Handler<K>>(&mut self, handler: &mut H, moment: u64)
         requires { moment < 2 ^ 63 }
     {
-        mem::swap(&mut self.queue, &mut self.going_on);
-        for index in 0..self.going_on.len() {
-            let Some(key) = self.going_on.get(index).copied() else {
+        for _ in 0..self.ready.len() {
+            let Some(key) = self.ready.pop() else {
                 break;
             };
-            if let Some(slot) = self.slots.get_mut(key) {
-                slot.queued = false;
-                self.serve(handler, key, moment);
-            }
+            self.serve_next(handler, key, moment);
         }
-        self.going_on.clear();
     }
 
-    /// Serves all clients.
+    /// Serves all clients, except those that are ready: these are served in their turn.
     pub fn serve_all<H: Handler<K>>(&mut self, handler: &mut H, moment: u64)
         requires { moment < 2 ^ 63 }
     {
@@ -294,9 +285,18 @@ impl<K: Default + Drop> Clients<K> {
         }
     }
 
-    /// Serves the client of a key as far as possible, once its first bytes are known. A stranger that they show is turned away before any
-    /// byte is read, and one that its first line shows before that line is.
+    /// Serves the client of a key as far as possible, unless it is ready: then it is served in its turn.
     pub fn serve<H: Handler<K>>(&mut self, handler: &mut H, key: usize, moment: u64)
+        requires { moment < 2 ^ 63 }
+    {
+        if !self.ready.has(key) {
+            self.serve_next(handler, key, moment);
+        }
+    }
+
+    /// Serves the client of a key as far as possible, once its first bytes are known. A stranger that they show is turned away before any
+    /// byte is read.
+    fn serve_next<H: Handler<K>>(&mut self, handler: &mut H, key: usize, moment: u64)
         requires { moment < 2 ^ 63 }
     {
         let Some(slot) = self.slots.get_mut(key) else {
@@ -318,18 +318,10 @@ impl<K: Default + Drop> Clients<K> {
         let step = handler.serve(&mut slot.client, moment);
         slot.pass(before, handler.tally());
         match step {
-            AfterPump::GoOn => {
-                let was_queued = mem::replace(&mut slot.queued, true);
-                if !was_queued && self.queue.push(key).is_err() {
-                    handler.note_refused();
-                    self.close(handler, key);
-                }
-            }
+            AfterPump::GoOn => self.ready.push(key),
             AfterPump::Wait => handler.shrink_if_idle(slot.client.number, KEPT_ROOM),
-            AfterPump::Close => match slot.client.first.opening() {
-                Opening::Strange(stranger) => self.turn_away(handler, key, stranger),
-                _ => self.close(handler, key),
-            },
+            AfterPump::Close => self.close(handler, key),
+            AfterPump::TurnAway => self.turn_away(handler, key, Stranger::Http),
         }
     }
 

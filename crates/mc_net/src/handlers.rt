@@ -2,7 +2,6 @@
 ghost use Rattle.std.specs.Prelude.{◌≡◌, ◌<◌, ◌^◌};
 
 use crate::after_pumps::AfterPump;
-use crate::first_lines::FirstLine;
 use crate::inputs::Readiness;
 use mc_stream::IoStats;
 use mio::net::TcpStream;
@@ -18,8 +17,6 @@ pub struct Client<K> {
     pub ended: bool,
     /// What is known of its input.
     pub readiness: Readiness,
-    /// What is known of its first line.
-    pub first: FirstLine,
     /// What its handler keeps of it.
     pub kept: K,
 }

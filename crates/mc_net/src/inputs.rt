@@ -1,8 +1,9 @@
 //! The input of a stream with events.
-ghost use Rattle.std.specs.Prelude.{◌≡◌, ◌&&◌, ◌||◌, true, false, IfOk, IsErr, length, nat_lt, not};
-ghost use Rattle.mio.specs.Event.{is_error, is_read_closed, is_readable};
+ghost use Rattle.std.specs.Prelude.{◌≡◌, true, false, IfErr, IfOk, IsErr, length};
 ghost use Rattle.std.specs.Io.{ReadsAtMost};
 ghost use Rattle.std.specs.Io.KnownBytes.{ReadConsumes};
+ghost use Rattle.std.specs.IoError.{error_kind};
+ghost use Rattle.mc_net.specs.Inputs.{after_error, after_event, after_read};
 
 use mio::event::Event;
 use std::io;
@@ -15,6 +16,8 @@ pub struct Readiness {
     would_block: bool,
     /// Whether the peer has said that it will send no more, so that the end must still be read.
     peer_closed: bool,
+    /// Whether an urgent byte has arrived: a read ends in front of it, although more bytes have arrived.
+    urgent: bool,
 }
 
 impl Readiness {
@@ -22,10 +25,12 @@ impl Readiness {
     pub fn new() -> Readiness
         ensures would_block { result.would_block ≡ true }
         ensures peer_closed { result.peer_closed ≡ false }
+        ensures urgent { result.urgent ≡ false }
     {
         Readiness {
             would_block: true,
             peer_closed: false,
+            urgent: false,
         }
     }
 
@@ -43,11 +48,9 @@ impl Readiness {
         self.peer_closed
     }
 
-    /// Records what an event says of the stream: whether bytes have arrived, and whether it has ended or failed.
+    /// Records what an event says of the stream: whether bytes have arrived, an urgent one among them, and whether it has ended or failed.
     pub fn note(&mut self, event: &Event)
-        ensures would_block { self.new.would_block
-            ≡ (self.old.would_block && not (is_read_closed event.now || is_error event.now || is_readable event.now)) }
-        ensures peer_closed { self.new.peer_closed ≡ (self.old.peer_closed || is_read_closed event.now || is_error event.now) }
+        ensures { self.new ≡ after_event self.old event.now }
     {
         let ended = event.is_read_closed() || event.is_error();
         if ended || event.is_readable() {
@@ -56,12 +59,36 @@ impl Readiness {
         if ended {
             self.peer_closed = true;
         }
+        if event.is_priority() {
+            self.urgent = true;
+        }
+    }
+
+    /// Records that a read returned this number of bytes, of those it asked for.
+    #[inline(always)]
+    fn note_read(&mut self, count: usize, asked: usize)
+        ensures { self.new ≡ after_read self.old count asked }
+    {
+        self.would_block = count < asked && !self.peer_closed && !self.urgent;
+    }
+
+    /// Records that a read failed.
+    fn note_error(&mut self, error: &io::Error)
+        ensures { self.new ≡ after_error self.old (error_kind error.now) }
+    {
+        match error.kind() {
+            ErrorKind::WouldBlock => {
+                self.would_block = !self.peer_closed;
+                self.urgent = false;
+            }
+            _ => {}
+        }
     }
 }
 
 /// The input of a stream with events. A read that returns fewer bytes than were asked for has emptied it, and the next one
-/// need not ask the system. It drops and repeats no byte of its stream. Its maker keeps the readiness after the reads for the
-/// next input.
+/// need not ask the system. If an urgent byte has arrived, only a read that would block shows that it is empty. It drops and repeats no
+/// byte of its stream. Its maker keeps the readiness after the reads for the next input.
 #[derive(Drop)]
 pub struct Input<R> {
     /// The source of the bytes: a nonblocking socket, or another reader that does not block.
@@ -77,15 +104,22 @@ impl<R: Read> Read for Input<R> {
         ensures bound { ReadsAtMost result piece.new }
         ensures bytes { ReadConsumes (R.remaining self.old.stream) (R.remaining self.new.stream) result piece.new }
         ensures would_block { self.old.readiness.would_block ≡ true → IsErr result × (self.new ≡ self.old) }
-        ensures readiness { IfOk result (λ count. self.new.readiness.would_block ≡ (nat_lt count (length piece.new) && not self.old.readiness.peer_closed)) }
-        ensures peer_closed { self.new.readiness.peer_closed ≡ self.old.readiness.peer_closed }
+        ensures readiness { IfOk result (λ count. self.new.readiness ≡ after_read self.old.readiness count (length piece.new)) }
+        ensures failed { self.old.readiness.would_block ≡ false
+            → IfErr result (λ error. self.new.readiness ≡ after_error self.old.readiness (error_kind error)) }
     {
         if self.readiness.would_block {
             return Err(io::Error::from(ErrorKind::WouldBlock));
         }
-        let count = self.stream.read(piece)?;
-        // While the end must still be read, the stream is not emptied: no further event may report it.
-        self.readiness.would_block = count < piece.len() && !self.readiness.peer_closed;
-        Ok(count)
+        match self.stream.read(piece) {
+            Ok(count) => {
+                self.readiness.note_read(count, piece.len());
+                Ok(count)
+            }
+            Err(error) => {
+                self.readiness.note_error(&error);
+                Err(error)
+            }
+        }
     }
 }

@@ -4,7 +4,7 @@
 //! [`Acceptor`] is a listener and how many connections it has accepted. The poll with which it is [registered](Acceptor::register) reports
 //! it, which is [recorded](Acceptor::note), and [`Acceptor::accept`] returns the connections, one by one. If the system gives none, a
 //! [`Backlog`] says why. A [`Readiness`] keeps what the events of a socket say ([`Readiness::note`]). An [`Input`] is the reader over both: it asks
-//! the system for no bytes that are known to be missing. [`step_after`] says what is done with a client whose pump ended, and a
+//! the system for no bytes that are known to be missing, also behind an urgent byte. [`step_after`] says what is done with a client whose pump ended, and a
 //! [`Stopwatch`] how long a program has served. [`keep_alive`] and [`keep_alive_by`] make the system detect peers that vanished, and
 //! [`reset`] gives a connection up. [`PIECE_LEN`] and [`KEPT_ROOM`] are limits shared by all programs on sockets.
 //!
@@ -19,17 +19,21 @@
 //!
 //! [`serve_rounds`] is the loop of a server and of a proxy. It waits for the sockets, records who connects to the listener, lets in as many
 //! clients as a round does, and leaves the rest to an implementation of [`LoopHandler`]. [`Clients`] are the [`Client`]s that were let in, with
-//! the queue of those that go on without an event, and with how long each was idle. A [`Handler`] serves them: it admits a client, carries
-//! its bytes and returns what is done with it next. [`poll_timeout`] returns how long a round waits, and a [`Report`] says what was done. A
-//! [`Room`] is how many clients the open files of a program allow, and a [`Listed`] which clients are connected, at most [`LIST_LEN`] at a
-//! time.
+//! the queue of those that are ready, and with how long each was idle. A [`Handler`] serves them: it admits a client, carries its bytes and
+//! returns what is done with it next. [`poll_timeout`] returns how long a round waits, and a [`Report`] says what was done. A [`Room`] is how
+//! many clients the open files of a program allow, and a [`Listed`] which clients are connected, at most [`LIST_LEN`] at a time.
 //!
-//! A client is served once its first bytes are known not to be a stranger's ([`opening_of`]). It is read through a [`Guard`] ([`guarded`]), which
-//! reads no line that shows a stranger ([`FirstLine`]). A stranger is closed, and a line on standard error says so ([`Clients::tell`]).
+//! Clients are served in turn. An event makes a client ready ([`Clients::wake`]), and so does a budget that is used up ([`AfterPump::GoOn`]):
+//! its key is behind all others in a [`ReadyQueue`], unless it is there already. [`Clients::serve_ready`] takes as many keys from the front as
+//! there were when it began. It is proved of the queue that these are the keys that were there, in order, each once, whatever becomes ready
+//! meanwhile ([`a_round_takes_what_was_there`], [`ReadyQueue::len`]). That each client of these keys is served, and that a
+//! [`Clients::serve`] leaves a client that is ready to its turn, is seen by reading both.
+//!
+//! A client is served once its first bytes are known not to be a stranger's ([`opening_of`]). A stranger is closed, and a line on standard
+//! error says so ([`Clients::tell`]). A handler makes its client one by [`AfterPump::TurnAway`].
 //!
 //! [`serve_rounds`] blocks, possibly for ever; of the other calls only those that print on standard error may. It is proved that they are
-//! safe, and that each except [`serve_rounds`] ends. It is proved too that no read of a [`Guard`] returns the whole first line of a
-//! stranger, in pieces of any size.
+//! safe, and that each except [`serve_rounds`] ends.
 //!
 //! # Operators
 //!
@@ -56,16 +60,11 @@
 //! protocol, TLS), the text protocol, or too few to know. A stranger's bytes are not read as the text protocol: a line of HTTP after the
 //! first could be a command that nobody meant. `specs/Openings.antt` says exactly which bytes are whose.
 //!
-//! A request of HTTP by another method has no such beginning, and one may follow empty lines. So [`FirstLine`] looks at the first non-empty
-//! line, in pieces of any size: a line that is no command and ends in a version of HTTP is a stranger's. `specs/FirstLines.antt` says which
-//! lines these are. Empty lines, spaces and long words are passed many bytes at a time, so that a client costs little more before its line
-//! is known than after.
+//! A request of HTTP by another method has no such beginning. Its program reads it, and closes the connection at the line of its host.
 //!
-//! [`what_is_settled_stays`], [`first_lines_stay`], [`openings_are_settled`], [`small_letters_are_text`] and [`commands_are_text`] are
-//! laws. It plays no part where a stream is cut, and after [`OPENING_LEN`] bytes its opening is known. A command in small letters has no
-//! opening of a stranger, and a line that begins with a command is text once that has ended. [`openings_of_strangers`],
-//! [`openings_of_text`], [`first_lines_of_strangers`] and [`first_lines_of_text`] are examples. None of them does anything, and none of
-//! these calls takes memory.
+//! [`what_is_settled_stays`], [`openings_are_settled`] and [`small_letters_are_text`] are laws. It plays no part where a stream is cut, and
+//! after [`OPENING_LEN`] bytes its opening is known. A command in small letters has no opening of a stranger. [`openings_of_strangers`] and
+//! [`openings_of_text`] are examples. None of them does anything, and none of these calls takes memory.
 #![tactic(auto)]
 
 mod acceptors;
@@ -73,12 +72,7 @@ mod after_pumps;
 mod binding;
 mod budgets;
 mod clients;
-mod commands;
 mod conns;
-mod endings;
-mod first_lines;
-mod first_words;
-mod guards;
 mod handlers;
 mod inputs;
 mod keeping;
@@ -87,15 +81,14 @@ mod openings;
 mod operator_slots;
 mod operators;
 mod processes;
+mod ready_queues;
 mod reports;
 mod resets;
 mod rooms;
 mod rounds;
-mod spaces;
 mod stopwatches;
 mod stranger_laws;
 mod strangers;
-mod word_starts;
 
 pub use acceptors::{Acceptor, Backlog};
 pub use after_pumps::{AfterPump, step_after};
@@ -103,8 +96,6 @@ pub use binding::{bind, first_address, spelled_address};
 pub use budgets::STEPS;
 pub use clients::Clients;
 pub use conns::{LIST_LEN, Listed, Owed};
-pub use first_lines::FirstLine;
-pub use guards::{Guard, guarded};
 pub use handlers::{Client, Handler};
 pub use inputs::{Input, Readiness};
 pub use keeping::{CLIENT_KEEPALIVE, Keepalive, keep_alive, keep_alive_by};
@@ -113,13 +104,13 @@ pub use openings::{OPENING_LEN, Opening, Stranger, opening_of};
 pub use operator_slots::{LINGER, PATIENCE, QUIET};
 pub use operators::{MAX_OPERATORS, Operators};
 pub use processes::{process_number, resident_memory, wall_clock};
+pub use ready_queues::{ReadyQueue, a_round_takes_what_was_there};
 pub use reports::Report;
 pub use resets::reset;
 pub use rooms::Room;
 pub use rounds::{LoopHandler, poll_timeout, serve_rounds};
 pub use stopwatches::Stopwatch;
 pub use stranger_laws::{
-    commands_are_text, first_lines_of_strangers, first_lines_of_text, first_lines_stay,
     openings_are_settled, openings_of_strangers, openings_of_text, small_letters_are_text,
     what_is_settled_stays,
 };

@@ -34,13 +34,13 @@ pub trait LoopHandler<R, C> {
     /// the clients that wait at the listener.
     fn before(&mut self, rt: &R, registry: &Registry, backlog: Backlog) -> Option<Duration>;
 
-    /// Begins a round, once it has waited, at its moment, and serves the clients that go on.
+    /// Begins a round, once it has waited, at its moment.
     fn begin(&mut self, rt: &R, clock: &mut C);
 
     /// Handles an event of any socket except the listener's.
     fn wake(&mut self, event: &Event);
 
-    /// Does what the events of a round leave to be done together.
+    /// Does what the events of a round leave to be done together: the clients that are ready are served, each once.
     fn carry_on(&mut self, registry: &Registry);
 
     /// Returns whether clients may be let in.
@@ -136,7 +136,7 @@ fn let_in<R, C, H: LoopHandler<R, C>>(
     }
 }
 
-/// Returns how long a round waits: not at all if a client goes on, and for ever if nothing is due. Otherwise it waits until something is
+/// Returns how long a round waits: not at all if a client is ready, and for ever if nothing is due. Otherwise it waits until something is
 /// due, in `left` milliseconds, but a second at most if something must soon be done without an event.
 pub fn poll_timeout(goes_on: bool, soon: bool, left: Option<u64>) -> Option<Duration> {
     if goes_on {

@@ -9,6 +9,7 @@ pub mod ProxyState
 pub mod ProxyFields
 pub mod Noting
 pub mod Turns
+pub mod FirstAndLast
 pub mod LinkTurns
 pub mod Joins
 pub mod Causes

@@ -14,6 +14,7 @@
 //! turn of the link ([`Proxy::link_turn`]) matches a reply to the oldest pending command. A protocol violation loses the link. A lost
 //! command is never sent again. [`Proxy::ready`] returns whether a session has something to take. [`Proxy::waits_for`] returns whether its
 //! next request needs a link, and so whether to call it when that link has room again, or is lost.
+//! [`Proxy::commands`] returns how many commands its newest request has, and [`Proxy::is_foreign`] whether its next line names a host.
 //!
 //! `specs/Turns.antt` says what a turn does, `specs/LinkTurns.antt` what a turn of a link and its loss do, and `specs/Emits.antt` how an
 //! answer is emitted. A step that leaves its session and the links as they were changes nothing ([`steps_that_change_nothing_are_still`]).

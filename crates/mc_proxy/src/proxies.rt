@@ -45,6 +45,7 @@ impl Proxy {
     ghost use Rattle.mc_route.specs.declared.losses.Losses.TheVariants.{Told};
     ghost use Rattle.mc_proxy.specs.Emits.{IsEmit, emitted};
     ghost use Rattle.mc_proxy.specs.SessionState.{fresh_session};
+    ghost use Rattle.mc_proxy.specs.FirstAndLast.{commands_of, is_foreign_at};
     ghost use Rattle.mc_proxy.specs.Looks.{IsReady, waits_for};
     ghost use Rattle.mc_proxy.specs.SessionTurns.{IsFed, IsTurn};
     ghost use Rattle.mc_proxy.specs.ProxyState.{is_finished, opened, output_of, sent_by, session_at, unanswered_of, with_fresh, without};
@@ -161,6 +162,14 @@ impl Proxy {
         self.sessions.get(number).is_some_and(Session::ready)
     }
 
+    /// Returns whether the unread bytes of a session begin with a line that names a host, after any spaces: no client of a cache sends
+    /// one, but a web browser does. It is false if the session is not open. It takes no memory.
+    pub fn is_foreign(&self, number: u64) -> bool
+        ensures { result ≡ is_foreign_at (session_at self.now number) }
+    {
+        self.sessions.get(number).is_some_and(Session::is_foreign)
+    }
+
     /// Returns whether a turn of a session would take a request or fault: one has arrived whole, and need not wait for a mark. It is false if
     /// the session is not open. It takes no memory.
     pub fn can_turn(&self, number: u64) -> bool
@@ -241,12 +250,27 @@ impl Proxy {
         self.sessions.get(number).map_or(0, Session::unanswered)
     }
 
+    /// Returns how many commands the newest unanswered request of a session has: none if all are answered, or it is not open.
+    pub fn commands(&self, number: u64) -> usize
+        ensures { result ≡ commands_of (session_at self.now number) }
+    {
+        self.sessions.get(number).map_or(0, Session::commands)
+    }
+
     /// Returns whether the session is closed to input, after `quit` or a line too long, and all that was taken of it is answered. It is false
     /// if the session is not open.
     pub fn finished(&self, number: u64) -> bool
         ensures { result ≡ is_finished (session_at self.now number) }
     {
         self.sessions.get(number).is_some_and(Session::is_finished)
+    }
+
+    /// Returns how many bytes of memory are reserved for a session's input and output: no fewer than its output has, and 0 if it is not open.
+    pub fn reserved(&self, number: u64) -> usize
+        ensures output { length (output_of (session_at self.now number)) ≤ result }
+        ensures not_open { session_at self.now number ≡ None → result ≡ 0 }
+    {
+        self.sessions.get(number).map_or(0, Session::reserved)
     }
 
     /// Frees the memory of each empty buffer of a session that has room for more than `kept` bytes or requests. It is for a session that is

@@ -1,5 +1,5 @@
 //! A session: what a client sends, and what it is answered.
-ghost use Rattle.std.specs.Prelude.{◌≡◌, ◌≢◌, ◌≤◌, ◌<◌, ◌+◌, ◌&&◌, ◌==◌, ◌↔◌, ◌∷◌, ◌++◌, [], None, Some, true, false, drop, length, map};
+ghost use Rattle.std.specs.Prelude.{◌≡◌, ◌≢◌, ◌≤◌, ◌<◌, ◌+◌, ◌-◌, ◌^◌, min, ◌&&◌, ◌==◌, ◌↔◌, ◌∷◌, ◌++◌, [], None, Some, true, false, drop, length, map};
 ghost use Rattle.std.specs.Prelude.{IsTrue, IfOk, IfSome, IfNone, IsOkUnless, OnOk, OnErr};
 ghost use Rattle.mc_proxy.specs.SessionState.{states};
 
@@ -11,7 +11,7 @@ use crate::stores::{may_store, send_store};
 use crate::unanswered::Unanswered;
 use mc_link::{Link, Tag};
 use mc_request::{Parsed, RequestRef};
-use mc_request_reader::{Front, LentGet, Look, Peek, Reader};
+use mc_request_reader::{Front, LentGet, Look, Peek, Reader, names_host};
 use mc_ring::Ring;
 use mc_route::{Losses, Outcome, Routed, goes_to, route};
 use mc_text::{consume_front, shrink_if_idle};
@@ -46,6 +46,7 @@ impl Model for Session {
 impl Session {
     ghost use Rattle.mc_request.specs.LinesSeen.{asked_of};
     ghost use Rattle.mc_request.specs.WellFormed.{is_well_formed};
+    ghost use Rattle.mc_request_reader.specs.Hosts.{names_host};
     ghost use Rattle.mc_request_reader.specs.Peeks.{front_of, past};
     ghost use Rattle.mc_request_reader.specs.Reader.{KeepsRest, rest_of};
     ghost use Rattle.mc_route.specs.Routes.{route_of_taken};
@@ -53,6 +54,7 @@ impl Session {
     ghost use Rattle.mc_proxy.specs.Emits.{IsEmit, emitted, hides_loss_first};
     ghost use Rattle.mc_proxy.specs.SessionNoting.{set_outcome_in_session};
     ghost use Rattle.mc_proxy.specs.Sending.{at_once, handed, is_marked, is_session_marked};
+    ghost use Rattle.mc_proxy.specs.FirstAndLast.{commands_in};
     ghost use Rattle.mc_proxy.specs.Looks.{IsReady, waits_for};
     ghost use Rattle.mc_proxy.specs.SessionTurns.{IsFed, IsTurn};
 
@@ -292,6 +294,13 @@ impl Session {
         self.reader.ready()
     }
 
+    /// Returns whether the unread bytes begin with a line that names a host, after any spaces. It takes no memory.
+    pub fn is_foreign(&self) -> bool
+        ensures { result ≡ names_host self.now.reader.unread }
+    {
+        names_host(self.reader.unread())
+    }
+
     /// Returns whether a turn would take a request or fault: one has arrived whole, and need not wait for a mark. It takes no memory.
     pub fn can_turn(&self, ring: &Ring, links: &[Link]) -> bool
         ensures { IsTrue result ↔ IsReady ring.now (states links.now) self.now }
@@ -375,6 +384,13 @@ impl Session {
         self.unanswered.len()
     }
 
+    /// Returns how many commands the newest unanswered request has: none if all are answered.
+    pub fn commands(&self) -> usize
+        ensures { result ≡ commands_in self.now.unanswered }
+    {
+        self.unanswered.back().map_or(0, Unanswered::commands)
+    }
+
     /// Returns the answers that were not consumed.
     pub fn output(&self) -> &[u8]
         ensures { result.now ≡ self.now.output }
@@ -389,6 +405,17 @@ impl Session {
         ensures { self.new ≡ record self.old { output = drop count self.old.output } }
     {
         self.sent = consume_front(&mut self.output, self.sent + count);
+    }
+
+    /// Returns how many bytes of memory are reserved for what is kept of the input, and for the output: no fewer than either has, as far as 64
+    /// bits count. What is kept for unanswered requests is not counted.
+    pub fn reserved(&self) -> usize
+        ensures input { min self.now.reader.held (2 ^ 64 - 1) ≤ result }
+        ensures output { length self.now.output ≤ result }
+    {
+        self.reader
+            .reserved()
+            .saturating_add(self.output.capacity())
     }
 
     /// Frees the memory of each empty buffer that has room for more than `kept` bytes or requests.

@@ -1,5 +1,5 @@
 //! A request that was taken and is not answered.
-ghost use Rattle.std.specs.Prelude.{◌≡◌, ◌++◌, OnOk, OnErr};
+ghost use Rattle.std.specs.Prelude.{◌≡◌, ◌++◌, length, OnOk, OnErr};
 ghost use Rattle.mc_proxy.specs.Emits.{awaited_in, count_awaited};
 
 use crate::session_errors::SessionError;
@@ -47,6 +47,13 @@ impl Unanswered {
             outcomes,
             awaited,
         }
+    }
+
+    /// Returns how many commands it has.
+    pub fn commands(&self) -> usize
+        ensures { result ≡ length self.now.outcomes }
+    {
+        self.outcomes.len()
     }
 
     /// Returns whether the outcome of each command is known.

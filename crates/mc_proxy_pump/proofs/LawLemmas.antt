@@ -86,22 +86,22 @@ after_call : (number : ℕ) (call : sessions.Call) (texts sent : ℕ → List �
 after_call number (sessions.Fed came) texts sent order lanes old new h step =
     after_none number came [] texts (grown number came texts) sent sent order lanes new (λ _. refl) (λ n. grown_none number n sent)
     (holds-fed texts sent order lanes number came old new h step.0)
-after_call number (sessions.Turned turns.Took) texts sent order lanes old new h step = record {
-  more = entry_taken step ∷ [];
+after_call number (sessions.Turned turns.Took work) texts sent order lanes old new h step = record {
+  more = entry_taken step.0 ∷ [];
   own = (refl, tt);
-  holds = holds_same texts (grown number [] texts) sent (grown number [] sent) (order ++ entry_taken step ∷ []) lanes lanes new
-      (λ n. grown_none number n texts) (λ n. grown_none number n sent) (λ _. refl) (holds-took texts sent order lanes number old new h step);
+  holds = holds_same texts (grown number [] texts) sent (grown number [] sent) (order ++ entry_taken step.0 ∷ []) lanes lanes new
+      (λ n. grown_none number n texts) (λ n. grown_none number n sent) (λ _. refl) (holds-took texts sent order lanes number old new h step.0);
 }
-after_call number (sessions.Turned turns.Idle) texts sent order lanes old new h step =
+after_call number (sessions.Turned turns.Idle work) texts sent order lanes old new h step =
     after_none number [] [] texts texts sent sent order lanes new (λ n. grown_none number n texts) (λ n. grown_none number n sent)
-    (holds-idle_turn texts sent order lanes number turns.Idle old new h (λ e. absurd cc) step)
-after_call number (sessions.Turned turns.Waiting) texts sent order lanes old new h step =
+    (holds-idle_turn texts sent order lanes number turns.Idle old new h (λ e. absurd cc) step.0)
+after_call number (sessions.Turned turns.Waiting work) texts sent order lanes old new h step =
     after_none number [] [] texts texts sent sent order lanes new (λ n. grown_none number n texts) (λ n. grown_none number n sent)
-    (holds-idle_turn texts sent order lanes number turns.Waiting old new h (λ e. absurd cc) step)
-after_call number (sessions.Turned turns.Closing) texts sent order lanes old new h step =
+    (holds-idle_turn texts sent order lanes number turns.Waiting old new h (λ e. absurd cc) step.0)
+after_call number (sessions.Turned turns.Closing work) texts sent order lanes old new h step =
     after_none number [] [] texts texts sent sent order lanes new (λ n. grown_none number n texts) (λ n. grown_none number n sent)
-    (holds-idle_turn texts sent order lanes number turns.Closing old new h (λ e. absurd cc) step)
-after_call number (sessions.Emitted hides) texts sent order lanes old new h step =
+    (holds-idle_turn texts sent order lanes number turns.Closing old new h (λ e. absurd cc) step.0)
+after_call number (sessions.Emitted hides work) texts sent order lanes old new h step =
     after_none number [] [] texts texts sent sent order lanes new (λ n. grown_none number n texts) (λ n. grown_none number n sent)
     (holds-emitted texts sent order lanes number old new h step.0)
 after_call number sessions.Rested texts sent order lanes old new h step =

@@ -7,6 +7,7 @@ use Rattle.mc_stream.specs.declared.outcomes.Pumped.TheVariants.{Again}
 use Rattle.mc_stream.specs.Sides.{pump_of}
 use Rattle.mc_proxy_pump.specs.Calls.{SessionStretch}
 use Rattle.mc_proxy_pump.specs.Clients.{PumpsClient, is_owed_at}
+use Rattle.mc_proxy_pump.specs.Tallies.{Counts}
 use Rattle.mc_proxy_pump.specs.Rounds.{Sends}
 use Rattle.mc_proxy_pump.proofs.PumpLemmas.{pumps_then, pumps_turns, pumps_unsent, stopped}
 
@@ -16,7 +17,7 @@ owed_is_open None owed = let clash : false ≡ true = owed in absurd cc
 owed_is_open (Some session) owed = refl
 
 -- answers, and then a write
-pub answered : (number : ℕ) (side : Result Bool Pumped) (a b c : ProxyState) (unread written written' : Option (List ℕ)) (ended : Bool) (first second third : Option ℕ)
+pub answered : (number : ℕ) (side : Result Bool Pumped) (a b c : ProxyState) (unread written written' : Option (List ℕ)) (ended : Bool) (first second third : Counts)
     → SessionStretch number a b [] [] first second → Sends number side b c written written' second third
     → PumpsClient number (pump_of side) a c unread unread written written' ended ended first third
 answered number (Ok moved) a b c unread written written' ended first second third put sent = stopped number moved Again a b c unread written written' ended first second third put sent tt

@@ -1,5 +1,5 @@
 -- The parts of a round of a session's pump.
-use Rattle.std.proofs.Common.{◌≡◌, ◌∙◌, ◌⊎◌, ◌↔◌, ◌+◌, ◌≤◌, ◌<◌, inl, inr, ℕ, suc, ◌==◌, ◌&&◌, Bool, true, false, nat_le, if◌then◌else◌, Result, Ok, List, [], ◌∷◌, ◌++◌, length, take, drop, Option, Some, None, IsSome, refl, sym, ap, subst, arith, length-drop}
+use Rattle.std.proofs.Common.{◌≡◌, ◌∙◌, ◌⊎◌, ◌↔◌, ◌+◌, ◌-◌, ◌≤◌, ◌<◌, inl, inr, ℕ, suc, ◌==◌, ◌&&◌, Bool, true, false, nat_le, if◌then◌else◌, Result, Ok, List, [], ◌∷◌, ◌++◌, length, take, drop, Option, Some, None, IsSome, refl, sym, ap, subst, arith, length-drop}
 use Rattle.std.specs.Prelude.{IsTrue}
 use Rattle.std.proofs.lemmas.Bool.Decides.{nat_tests}
 use Rattle.std.proofs.lemmas.List.{length_push}
@@ -10,6 +10,7 @@ use Rattle.mc_ring.specs.Rings.{RingState}
 use Rattle.mc_route.specs.declared.losses.Losses.{Losses}
 use Rattle.mc_link.specs.LinkState.{LinkState}
 use Rattle.mc_proxy.specs.Emits.{IsEmit, emitted, emitted_from, is_known, answer_of_one}
+use Rattle.mc_proxy.specs.FirstAndLast.{commands_of, is_foreign_at}
 use Rattle.mc_proxy.specs.SessionState.{SessionState, Unanswered}
 use Rattle.mc_proxy.specs.SessionTurns.{IsFed, IsHeldUp, IsTurn, Takes}
 use Rattle.mc_proxy.specs.declared.session_limits.TheConstants.{UNSENT_MARK}
@@ -22,17 +23,30 @@ use Rattle.mc_proxy.proofs.StepLemmas.{sent_at, steps_at, steps_still}
 use Rattle.mc_stream.specs.Sides.{HowItCame, HowItWent}
 use Rattle.mc_stream.specs.declared.outcomes.Pumped.{Pumped}
 use Rattle.mc_proxy_pump.specs.Calls.{Fed, Turned, Emitted, Rested, Sent, SessionStretch}
-use Rattle.mc_proxy_pump.specs.Clients.{IsHeldUpAt, IsOver, IsStuck, emitted_at, is_closed_at}
-use Rattle.mc_proxy_pump.specs.Tallies.{counted}
+use Rattle.mc_proxy_pump.specs.Clients.{EndsEarly, IsHeldUpAt, IsOver, IsStuck, emitted_at, is_closed_at}
+use Rattle.mc_proxy_pump.specs.Tallies.{Counts, counted}
+use Rattle.mc_proxy_pump.specs.Work.{emit_work, request_work, turn_work}
 use Rattle.mc_proxy_pump.specs.Rounds.{HasAnswered, HowMany, IsSentOf, Receives, Sends, StopsAt, ends_by, reads_by, work_of}
-use Rattle.mc_proxy_pump.proofs.StretchLemmas.{is_open, stretch_none, stretch_one, the_open}
+use Rattle.mc_proxy_pump.proofs.StretchLemmas.{is_open, spends_none, stretch_none, stretch_one, the_open}
 
--- a turn is a call
-pub stretch_turned : (number : ℕ) (turn : SessionTurn) (old new : ProxyState) (missed : Option ℕ)
-    → Steps number old new (IsTurn number turn old.ring old.losses)
-    → SessionStretch number old new [] [] missed missed
-stretch_turned number turn old new missed steps =
-    stretch_one number (Turned turn) old new missed steps (is_open (session_at new number) steps.after (steps_at number old new (IsTurn number turn old.ring old.losses) steps))
+-- a turn is a call, and costs nothing if it takes nothing
+pub stretch_turned : (number : ℕ) (turn : SessionTurn) (old new : ProxyState) (counts : Counts)
+    → Steps number old new (IsTurn number turn old.ring old.losses) → is_foreign_at (session_at old number) ≡ false → turn_work turn (session_at new number) ≡ 0
+    → SessionStretch number old new [] [] counts counts
+stretch_turned number turn old new counts steps own free =
+    stretch_one number (Turned turn (turn_work turn (session_at new number))) old new counts counts (steps, own, refl)
+    (is_open (session_at new number) steps.after (steps_at number old new (IsTurn number turn old.ring old.losses) steps))
+    refl (spends_none (Turned turn (turn_work turn (session_at new number))) counts.1 free)
+
+-- a request is taken while work is left
+pub stretch_took : (number : ℕ) (old new : ProxyState) (missed missed' : Option ℕ) (left left' : ℕ)
+    → Steps number old new (IsTurn number turns.Took old.ring old.losses) → is_foreign_at (session_at old number) ≡ false
+    → missed' ≡ missed → 0 < left → left' ≡ left - request_work (commands_of (session_at new number))
+    → SessionStretch number old new [] [] (missed, left) (missed', left')
+stretch_took number old new missed missed' left left' steps own same some spent =
+    stretch_one number (Turned turns.Took (turn_work turns.Took (session_at new number))) old new (missed, left) (missed', left') (steps, own, refl)
+    (is_open (session_at new number) steps.after (steps_at number old new (IsTurn number turns.Took old.ring old.losses) steps))
+    (sym same) (λ costs. some, spent)
 
 -- a request that is taken is one fewer to take, and one more to answer
 took_less : (number : ℕ) (ring : RingState) (losses : Losses) (links now : List LinkState) (before after : SessionState) (what : Parsed)
@@ -103,23 +117,25 @@ counted_alike Known false false missed known looks = refl
 had_answer : (number : ℕ) (old new : ProxyState) → Steps number old new (Alone (IsEmit emits.Done)) → HasAnswer number old
 had_answer number old new steps = (steps.before, steps.was, λ none. let clash : Some steps.after ≡ None = sym steps.step.1 ∙ none in absurd cc)
 
--- emitting an answer is a call, and the answer is counted if it hides a loss
-pub stretch_emitted : (number : ℕ) (old new : ProxyState) (looked : Bool) (missed missed' : Option ℕ) → Steps number old new (Alone (IsEmit emits.Done))
+-- emitting an answer is a call, and the answer is counted if it hides a loss; it is emitted while work is left
+pub stretch_emitted : (number : ℕ) (old new : ProxyState) (looked : Bool) (missed missed' : Option ℕ) (left left' : ℕ) → Steps number old new (Alone (IsEmit emits.Done))
     → length (output_of (session_at old number)) < UNSENT_MARK
     → (IsTrue looked ↔ (IsSome missed × HasAnswer number old × (hides_loss_at (session_at old number) ≡ true)))
-    → missed' ≡ counted looked missed → SessionStretch number old new [] [] missed missed'
-stretch_emitted number old new looked missed missed' steps below looks is =
+    → missed' ≡ counted looked missed → 0 < left → left' ≡ left - emit_work (session_at old number) (session_at new number)
+    → SessionStretch number old new [] [] (missed, left) (missed', left')
+stretch_emitted number old new looked missed missed' left left' steps below looks is some spent =
     let same : counted (hides_loss_at (session_at old number)) missed ≡ missed' =
     sym (is ∙ counted_alike (HasAnswer number old) looked (hides_loss_at (session_at old number)) missed (had_answer number old new steps) looks) in
-    subst (λ (m : Option ℕ). SessionStretch number old new [] [] missed m) same
-    (stretch_one number (Emitted (hides_loss_at (session_at old number))) old new missed (steps, below, refl)
-    (is_open (session_at new number) steps.after (steps_at number old new (Alone (IsEmit emits.Done)) steps)))
+    stretch_one number (Emitted (hides_loss_at (session_at old number)) (emit_work (session_at old number) (session_at new number))) old new (missed, left) (missed', left') (steps, below, refl, refl)
+    (is_open (session_at new number) steps.after (steps_at number old new (Alone (IsEmit emits.Done)) steps))
+    same (λ costs. some, spent)
 
 -- finding no known answer is a call too
-pub stretch_rested : (number : ℕ) (old new : ProxyState) (missed : Option ℕ) → Steps number old new (Alone (IsEmit emits.Idle)) → length (output_of (session_at old number)) < UNSENT_MARK
-    → SessionStretch number old new [] [] missed missed
-stretch_rested number old new missed steps below =
-    stretch_one number Rested old new missed (steps, below) (is_open (session_at new number) steps.after (steps_at number old new (Alone (IsEmit emits.Idle)) steps))
+pub stretch_rested : (number : ℕ) (old new : ProxyState) (counts : Counts) → Steps number old new (Alone (IsEmit emits.Idle)) → length (output_of (session_at old number)) < UNSENT_MARK
+    → SessionStretch number old new [] [] counts counts
+stretch_rested number old new counts steps below =
+    stretch_one number Rested old new counts counts (steps, below) (is_open (session_at new number) steps.after (steps_at number old new (Alone (IsEmit emits.Idle)) steps))
+    refl (spends_none Rested counts.1 refl)
 
 -- an answer that is emitted is one fewer to answer
 emit_parts : (session : SessionState) (us : List Unanswered) (after : SessionState) → emitted_from session us ≡ Some after
@@ -158,14 +174,14 @@ put_none number old new steps =
     )
 
 -- nothing was sent
-pub sends_still : (number : ℕ) (side : Result Bool Pumped) (s : ProxyState) (written written' : Option (List ℕ)) (missed : Option ℕ) → IsSome (session_at s number)
-    → HowItWent side written written' [] (s ≡ s) → Sends number side s s written written' missed missed
-sends_still number side s written written' missed there how = record {
+pub sends_still : (number : ℕ) (side : Result Bool Pumped) (s : ProxyState) (written written' : Option (List ℕ)) (counts : Counts) → IsSome (session_at s number)
+    → HowItWent side written written' [] (s ≡ s) → Sends number side s s written written' counts counts
+sends_still number side s written written' counts there how = record {
   went = [];
-  stretch = stretch_none number s missed there;
+  stretch = stretch_none number s counts there;
   uncounted = refl;
   how = how;
-  same = record { waits = refl; closed = refl; known = λ none. none; fewer = omega arith };
+  same = record { waits = refl; closed = refl; foreign = refl; known = λ none. none; fewer = omega arith };
 }
 
 emitted_sent : (s : SessionState) (output : List ℕ) (us : List Unanswered) → emitted_from s us ≡ None → emitted_from (record s { output = output }) us ≡ None
@@ -178,10 +194,10 @@ emitted_sent s output (u ∷ us) e =
     ]) e
 
 -- the first bytes were sent
-pub sends_some : (number count : ℕ) (output : List ℕ) (old new : ProxyState) (written written' : Option (List ℕ)) (missed : Option ℕ) → IsSome (session_at old number)
+pub sends_some : (number count : ℕ) (output : List ℕ) (old new : ProxyState) (written written' : Option (List ℕ)) (counts : Counts) → IsSome (session_at old number)
     → output ≡ output_of (session_at old number) → count ≤ length output → new ≡ sent_by number count (session_at old number) old → Appends written written' (take count output)
-    → Sends number (Ok true) old new written written' missed missed
-sends_some number count output old new written written' missed there unsent few is appended =
+    → Sends number (Ok true) old new written written' counts counts
+sends_some number count output old new written written' counts there unsent few is appended =
     let s = the_open (session_at old number) there in
     let after : SessionState = record s.0 { output = drop count s.0.output } in
     let now : session_at new number ≡ Some after = sent_at number count s.0 old new s.1 is in
@@ -191,27 +207,30 @@ sends_some number count output old new written written' missed there unsent few 
     let Q : Option SessionState → Type 0 = λ o. IsSentOf o (session_at new number) in
     record {
       went = take count (output_of (session_at old number));
-      stretch = stretch_one number (Sent count (take count (output_of (session_at old number)))) old new missed (bound, refl, is) (is_open (session_at new number) after now);
+      stretch = stretch_one number (Sent count (take count (output_of (session_at old number)))) old new counts counts (bound, refl, is) (is_open (session_at new number) after now)
+          refl (spends_none (Sent count (take count (output_of (session_at old number)))) counts.1 refl);
       uncounted = refl;
       how = subst (λ (bytes : List ℕ). Appends written written' (take count bytes)) unsent appended;
       same = subst Q (sym s.1) (subst P (sym now) (record {
         waits = refl;
         closed = refl;
+        foreign = refl;
         known = λ none. emitted_sent s.0 (drop count s.0.output) s.0.unanswered none;
         fewer = fewer;
       }));
     }
 
 -- no byte arrived
-pub receives_still : (number : ℕ) (side : Result Bool Pumped) (s : ProxyState) (unread unread' : Option (List ℕ)) (ended' : Bool) (missed : Option ℕ) → IsSome (session_at s number)
-    → HowItCame side unread unread' ended' [] (s ≡ s) → Receives number side s s unread unread' ended' missed missed
-receives_still number side s unread unread' ended' missed there how = record { came = []; stretch = stretch_none number s missed there; uncounted = refl; how = how }
+pub receives_still : (number : ℕ) (side : Result Bool Pumped) (s : ProxyState) (unread unread' : Option (List ℕ)) (ended' : Bool) (counts : Counts) → IsSome (session_at s number)
+    → HowItCame side unread unread' ended' [] (s ≡ s) → Receives number side s s unread unread' ended' counts counts
+receives_still number side s unread unread' ended' counts there how = record { came = []; stretch = stretch_none number s counts there; uncounted = refl; how = how }
 
 -- a piece arrived
-pub stretch_fed : (number : ℕ) (piece : List ℕ) (old new : ProxyState) (missed : Option ℕ) → Steps number old new (Alone (IsFed piece)) → waiting_of (session_at old number) ≡ []
-    → length (output_of (session_at old number)) < UNSENT_MARK → SessionStretch number old new piece [] missed missed
-stretch_fed number piece old new missed steps none below =
-    stretch_one number (Fed piece) old new missed (steps, none, below) (is_open (session_at new number) steps.after (steps_at number old new (Alone (IsFed piece)) steps))
+pub stretch_fed : (number : ℕ) (piece : List ℕ) (old new : ProxyState) (counts : Counts) → Steps number old new (Alone (IsFed piece)) → waiting_of (session_at old number) ≡ []
+    → length (output_of (session_at old number)) < UNSENT_MARK → SessionStretch number old new piece [] counts counts
+stretch_fed number piece old new counts steps none below =
+    stretch_one number (Fed piece) old new counts counts (steps, none, below) (is_open (session_at new number) steps.after (steps_at number old new (Alone (IsFed piece)) steps))
+    refl (spends_none (Fed piece) counts.1 refl)
 
 -- both of two tests hold
 both : (a b answer : Bool) → answer ≡ (a && b) → answer ≡ true → (a ≡ true) × (b ≡ true)
@@ -318,3 +337,18 @@ how_more false number a b c h less = subst (λ (p : ProxyState). work_of (sessio
 pub how_same : (answered : Bool) (number : ℕ) (a b c : ProxyState) → HowMany answered number a b → c ≡ b → HowMany answered number a c
 how_same true number a b c h same = subst (λ (p : ProxyState). work_of (session_at p number) < work_of (session_at a number)) (sym same) h
 how_same false number a b c h same = same ∙ h
+
+-- if nothing changes, the work and the unread bytes are as they were
+pub early_kept : (number left left' : ℕ) (old new : ProxyState) → left' ≡ left → new ≡ old → EndsEarly left (session_at old number) → EndsEarly left' (session_at new number)
+early_kept number left left' old new same kept h =
+    (subst (λ (n : ℕ). 0 < n) (sym same) h.0, subst (λ (p : ProxyState). is_foreign_at (session_at p number) ≡ false) (sym kept) h.1)
+
+-- likewise if no answer is emitted
+pub early_rested : (answered : Bool) (number left left' : ℕ) (old new : ProxyState) → HowMany answered number old new → answered ≡ false → left' ≡ left
+    → EndsEarly left (session_at old number) → EndsEarly left' (session_at new number)
+early_rested true number left left' old new how none same h = absurd cc
+early_rested false number left left' old new how none same h = early_kept number left left' old new same how h
+
+-- a write leaves the work and the unread bytes as they were
+pub early_sent : (left left' : ℕ) (a b : Option SessionState) → left' ≡ left → IsSentOf a b → EndsEarly left a → EndsEarly left' b
+early_sent left left' a b same sent h = (subst (λ (n : ℕ). 0 < n) (sym same) h.0, sent.foreign ∙ h.1)

@@ -1,4 +1,5 @@
 pub mod Tallies
+pub mod Work
 pub mod Calls
 pub mod Clients
 pub mod Rounds

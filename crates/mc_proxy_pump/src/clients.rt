@@ -4,11 +4,13 @@ ghost use Rattle.mc_proxy.specs.ProxyState.{output_of, session_at, unanswered_of
 ghost use Rattle.mc_proxy.specs.Turns.{HasAnswer, hides_loss_at, waiting_of};
 ghost use Rattle.mc_stream.specs.Sides.{pump_of};
 ghost use Rattle.mc_proxy_pump.specs.Calls.{SessionStretch};
-ghost use Rattle.mc_proxy_pump.specs.Clients.{PumpsClient, emitted_at, is_closed_at, is_owed_at};
+ghost use Rattle.mc_proxy_pump.specs.Clients.{EndsEarly, PumpsClient, emitted_at, foreign_after, is_closed_at, is_owed_at};
 ghost use Rattle.mc_proxy_pump.specs.Rounds.{HasAnswered, HowMany, Receives, Sends, StopsAt, TakesTurns, ends_by, reads_by};
+ghost use Rattle.mc_proxy_pump.specs.Tallies.{counts_of};
 
+use crate::limits::QUANTUM;
 use crate::tallies::ClientTally;
-use mc_proxy::{Emit, Proxy, ProxyError, SessionTurn, UNSENT_MARK};
+use mc_proxy::{Emit, Proxy, SessionTurn, UNSENT_MARK};
 use mc_stream::{MAX_ROUNDS, Pumped, read_once, write_once};
 use std::io::{Read, Write};
 
@@ -21,9 +23,14 @@ use std::io::{Read, Write};
 /// read returns no byte, and then reads no more; a caller passes `false` at first. The tally counts the requests that are taken,
 /// those whose answer hides a loss, and the bytes.
 ///
+/// Requests are taken and answers emitted only while some of the [`QUANTUM`] of work is left. Once none is, the pump writes the unsent
+/// output in one call, and returns [`Pumped::Again`].
+///
 /// After [`Pumped::Blocked`] the caller waits for one of three events. The stream may make progress; a server may answer one of
 /// the session's commands; or a link may send more of its bytes, if a request waits for its mark. Then the pump is called again.
 /// If the session is not open, it returns [`Pumped::Failed`].
+///
+/// It takes no request where the unread bytes name a host: it returns [`Pumped::Failed`], and sets `tally.foreign`.
 pub fn pump_client<R: Read, W: Write>(
     proxy: &mut Proxy,
     session: u64,
@@ -34,30 +41,29 @@ pub fn pump_client<R: Read, W: Write>(
     tally: &mut ClientTally,
 ) -> Pumped
     requires piece { 0 < length piece.old }
-    ensures pumps { IsSome (session_at proxy.old session) → PumpsClient session result proxy.old proxy.new
+    ensures pumps { IsSome (session_at proxy.old session) → (left : ℕ) × PumpsClient session result proxy.old proxy.new
         (R.remaining reader.old) (R.remaining reader.new) (W.contents writer.old) (W.contents writer.new) ended.old ended.new
-        tally.old.missed tally.new.missed }
+        (tally.old.missed, QUANTUM) (tally.new.missed, left) }
     ensures not_open { session_at proxy.old session ≡ None → (result ≡ Pumped.Failed) × (proxy.new ≡ proxy.old) }
     ensures not_counted { session_at proxy.old session ≡ None → tally.new ≡ tally.old }
+    ensures foreign { tally.new.foreign ≡ foreign_after result (session_at proxy.new session) tally.old.foreign }
 {
-    // A session that is not open takes no turn.
-    let Ok(turn) = proxy.turn(session) else {
+    if !proxy.is_open(session) {
         return Pumped::Failed;
-    };
-    count_turn(turn, tally);
-    for _ in 0..MAX_ROUNDS {
-        if let Err(pump) = round(proxy, session, ended, reader, writer, piece, tally) {
-            return pump;
-        }
     }
-    Pumped::Again
+    let before = tally.foreign;
+    tally.left = QUANTUM;
+    let pump = rounds(proxy, session, ended, reader, writer, piece, tally);
+    tally.foreign = is_foreign_after(pump, proxy, session, before);
+    pump
 }
 
 /// Emits the answers that are known, writes the unsent output in one call, and returns whether the writer took any. It takes no
 /// request and reads nothing: it is for a session with too many buffered bytes. If the session has no pending request and no
 /// unsent answer, or is not open, it does nothing.
 ///
-/// The error is how the pump stops.
+/// It emits answers only while some of its [`QUANTUM`] of work is left: once none is, it writes, and the error is [`Pumped::Again`]. Any
+/// error is how the pump stops.
 pub fn pump_answers<W: Write>(
     proxy: &mut Proxy,
     session: u64,
@@ -65,17 +71,19 @@ pub fn pump_answers<W: Write>(
     tally: &mut ClientTally,
 ) -> Result<bool, Pumped>
     ensures pumps { (unread : Option (List ℕ)) (ended : Bool) → IsSome (session_at proxy.old session)
-        → PumpsClient session (pump_of result) proxy.old proxy.new unread unread (W.contents writer.old) (W.contents writer.new) ended ended
-        tally.old.missed tally.new.missed }
+        → (left : ℕ) × PumpsClient session (pump_of result) proxy.old proxy.new unread unread (W.contents writer.old) (W.contents writer.new) ended ended
+        (tally.old.missed, QUANTUM) (tally.new.missed, left) }
     ensures not_open { session_at proxy.old session ≡ None → (result ≡ Ok false) × (proxy.new ≡ proxy.old) }
     ensures not_counted { session_at proxy.old session ≡ None → tally.new ≡ tally.old }
+    ensures foreign { tally.new.foreign ≡ tally.old.foreign }
 {
     if !is_owed(proxy, session) {
         return Ok(false);
     }
-    let Ok(_) = put_out(proxy, session, tally) else {
-        return Err(Pumped::Failed);
-    };
+    tally.left = QUANTUM;
+    if let Err(pump) = put_out(proxy, session, tally) {
+        return Err(stop(pump, proxy, session, writer, tally));
+    }
     send(proxy, session, writer, tally)
 }
 
@@ -86,12 +94,58 @@ pub fn is_owed(proxy: &Proxy, session: u64) -> bool
     proxy.unanswered(session) > 0 || !proxy.output(session).is_empty()
 }
 
-/// Counts a request that a turn took, if it did.
-fn count_turn(turn: SessionTurn, tally: &mut ClientTally)
-    ensures { tally.new.missed ≡ tally.old.missed }
+/// Returns whether a client is foreign after a pump, given whether one was before: the pump failed, and unread bytes name a host.
+fn is_foreign_after(pump: Pumped, proxy: &Proxy, session: u64, before: bool) -> bool
+    ensures { result ≡ foreign_after pump (session_at proxy.now session) before }
 {
-    if turn == SessionTurn::Took {
-        tally.passed.took();
+    before || (pump == Pumped::Failed && proxy.is_foreign(session))
+}
+
+/// Does the rounds of a pump, with the work that is left to it.
+fn rounds<R: Read, W: Write>(
+    proxy: &mut Proxy,
+    session: u64,
+    ended: &mut bool,
+    reader: &mut R,
+    writer: &mut W,
+    piece: &mut [u8],
+    tally: &mut ClientTally,
+) -> Pumped
+    requires is_open { IsSome (session_at proxy.old session) }
+    requires piece { 0 < length piece.old }
+    ensures { PumpsClient session result proxy.old proxy.new (R.remaining reader.old)
+        (R.remaining reader.new) (W.contents writer.old) (W.contents writer.new) ended.old ended.new
+        (counts_of tally.old) (counts_of tally.new) }
+{
+    for _ in 0..MAX_ROUNDS {
+        if let Err(pump) = round(proxy, session, ended, reader, writer, piece, tally) {
+            return pump;
+        }
+    }
+    Pumped::Again
+}
+
+/// Ends a pump that goes on no more, and returns how. If its work has reached the quantum, it writes the unsent output in one call.
+fn stop<W: Write>(
+    pump: Pumped,
+    proxy: &mut Proxy,
+    session: u64,
+    writer: &mut W,
+    tally: &mut ClientTally,
+) -> Pumped
+    requires { IsSome (session_at proxy.old session) }
+    ensures pumps { (unread : Option (List ℕ)) (ended : Bool)
+        → PumpsClient session result proxy.old proxy.new unread unread (W.contents writer.old) (W.contents writer.new) ended ended
+        (counts_of tally.old) (counts_of tally.new) }
+    ensures foreign { tally.new.foreign ≡ tally.old.foreign }
+{
+    if pump == Pumped::Again {
+        match send(proxy, session, writer, tally) {
+            Ok(_) => Pumped::Again,
+            Err(pump) => pump,
+        }
+    } else {
+        Pumped::Failed
     }
 }
 
@@ -109,10 +163,11 @@ fn round<R: Read, W: Write>(
     requires piece { 0 < length piece.old }
     ensures { PumpsClient session (pump_of result) proxy.old proxy.new (R.remaining reader.old)
         (R.remaining reader.new) (W.contents writer.old) (W.contents writer.new) ended.old ended.new
-        tally.old.missed tally.new.missed }
+        (counts_of tally.old) (counts_of tally.new) }
 {
-    let Ok(turn) = advance(proxy, session, tally) else {
-        return Err(Pumped::Failed);
+    let turn = match advance(proxy, session, tally) {
+        Ok(turn) => turn,
+        Err(pump) => return Err(stop(pump, proxy, session, writer, tally)),
     };
     let is_marked = proxy.output(session).len() >= UNSENT_MARK;
     let moved = send(proxy, session, writer, tally)?;
@@ -149,15 +204,13 @@ fn is_read(turn: SessionTurn, ended: bool, is_marked: bool) -> bool
     turn == SessionTurn::Idle && !ended && !is_marked
 }
 
-/// Takes requests and emits answers, as far as possible, and returns why no more is taken.
-fn advance(
-    proxy: &mut Proxy,
-    session: u64,
-    tally: &mut ClientTally,
-) -> Result<SessionTurn, ProxyError>
+/// Takes requests and emits answers, as far as possible, and returns why no more is taken. The error is how the pump stops: `Again` once
+/// its work has reached the quantum.
+fn advance(proxy: &mut Proxy, session: u64, tally: &mut ClientTally) -> Result<SessionTurn, Pumped>
     requires is_open { IsSome (session_at proxy.old session) }
-    ensures calls { SessionStretch session proxy.old proxy.new [] [] tally.old.missed tally.new.missed }
+    ensures calls { SessionStretch session proxy.old proxy.new [] [] (counts_of tally.old) (counts_of tally.new) }
     ensures stop { IfOk result (λ turn. StopsAt turn proxy.new (session_at proxy.new session)) }
+    ensures early { IfOk result (λ turn. EndsEarly tally.new.left (session_at proxy.new session)) }
     ensures answered { IfOk result (λ turn. HasAnswered (session_at proxy.new session)) }
 {
     loop {
@@ -168,19 +221,33 @@ fn advance(
     }
 }
 
-/// Takes requests until none waits, or none can be taken, and returns why.
+/// Takes requests until none waits, or none can be taken, and returns why. The error is how the pump stops: `Again` if no work is left, and
+/// `Failed` if the unread bytes name a host.
 fn take_turns(
     proxy: &mut Proxy,
     session: u64,
     tally: &mut ClientTally,
-) -> Result<SessionTurn, ProxyError>
+) -> Result<SessionTurn, Pumped>
     requires is_open { IsSome (session_at proxy.old session) }
-    ensures turns { TakesTurns session proxy.old proxy.new tally.old.missed tally.new.missed }
+    ensures turns { TakesTurns session proxy.old proxy.new (counts_of tally.old) (counts_of tally.new) }
     ensures stop { IfOk result (λ turn. StopsAt turn proxy.new (session_at proxy.new session)) }
+    ensures early { IfOk result (λ turn. EndsEarly tally.new.left (session_at proxy.new session)) }
 {
     loop {
-        match proxy.turn(session)? {
-            SessionTurn::Took => tally.passed.took(),
+        if tally.left == 0 {
+            return Err(Pumped::Again);
+        }
+        if proxy.is_foreign(session) {
+            return Err(Pumped::Failed);
+        }
+        let Ok(turn) = proxy.turn(session) else {
+            return Err(Pumped::Failed);
+        };
+        match turn {
+            SessionTurn::Took => {
+                tally.passed.took();
+                tally.charge_request(proxy.commands(session));
+            },
             SessionTurn::Idle => return Ok(SessionTurn::Idle),
             SessionTurn::Waiting => return Ok(SessionTurn::Waiting),
             SessionTurn::Closing => return Ok(SessionTurn::Closing),
@@ -188,25 +255,38 @@ fn take_turns(
     }
 }
 
-/// Emits the answers that are known, until the unsent bytes reach the mark, and returns whether there was one.
-fn put_out(proxy: &mut Proxy, session: u64, tally: &mut ClientTally) -> Result<bool, ProxyError>
+/// Emits the answers that are known, until the unsent bytes reach the mark, and returns whether there was one. The error is how the pump
+/// stops: `Again` if no work is left.
+fn put_out(proxy: &mut Proxy, session: u64, tally: &mut ClientTally) -> Result<bool, Pumped>
     requires is_open { IsSome (session_at proxy.old session) }
-    ensures calls { SessionStretch session proxy.old proxy.new [] [] tally.old.missed tally.new.missed }
+    ensures calls { SessionStretch session proxy.old proxy.new [] [] (counts_of tally.old) (counts_of tally.new) }
     ensures how { IfOk result (λ answered. HowMany answered session proxy.old proxy.new) }
+    ensures foreign { tally.new.foreign ≡ tally.old.foreign }
+    ensures unspent { IfOk result (λ answered. answered ≡ false → tally.new.left ≡ tally.old.left) }
     ensures answered { IfOk result (λ answered. HasAnswered (session_at proxy.new session)) }
 {
     let mut answered = false;
-    while proxy.output(session).len() < UNSENT_MARK {
+    loop {
+        let unsent = proxy.output(session).len();
+        if unsent >= UNSENT_MARK {
+            return Ok(answered);
+        }
+        if tally.left == 0 {
+            return Err(Pumped::Again);
+        }
         let hides = is_counted(proxy, session, tally);
-        match proxy.emit(session)? {
+        let Ok(emit) = proxy.emit(session) else {
+            return Err(Pumped::Failed);
+        };
+        match emit {
             Emit::Done => {
                 tally.answered(hides);
+                tally.charge_answer(proxy.output(session).len().saturating_sub(unsent));
                 answered = true;
             },
             Emit::Idle => return Ok(answered),
         }
     }
-    Ok(answered)
 }
 
 /// Returns whether the next answer of a session is counted if it is emitted: it is known and hides a loss, and such answers are
@@ -232,7 +312,8 @@ fn send<W: Write>(
     tally: &mut ClientTally,
 ) -> Result<bool, Pumped>
     requires { IsSome (session_at proxy.old session) }
-    ensures { Sends session result proxy.old proxy.new (W.contents writer.old) (W.contents writer.new) tally.old.missed tally.new.missed }
+    ensures sends { Sends session result proxy.old proxy.new (W.contents writer.old) (W.contents writer.new) (counts_of tally.old) (counts_of tally.new) }
+    ensures foreign { tally.new.foreign ≡ tally.old.foreign }
 {
     let count = write_once(writer, proxy.output(session))?;
     if count == 0 {
@@ -259,10 +340,11 @@ fn read_or_block<R: Read>(
     requires below { length (output_of (session_at proxy.old session)) < UNSENT_MARK }
     requires is_read { is_closed_at (session_at proxy.old session) ≡ false }
     requires goes_on { ended.old ≡ false }
+    requires early { EndsEarly tally.old.left (session_at proxy.old session) }
     requires piece { 0 < length piece.old }
     ensures { (written : Option (List ℕ)) → PumpsClient session (pump_of result) proxy.old proxy.new
         (R.remaining reader.old) (R.remaining reader.new) written written ended.old ended.new
-        tally.old.missed tally.new.missed }
+        (counts_of tally.old) (counts_of tally.new) }
 {
     let moved = receive(proxy, session, ended, reader, piece, tally)?;
     if moved || can_send {
@@ -286,7 +368,7 @@ fn receive<R: Read>(
     requires goes_on { ended.old ≡ false }
     requires piece { 0 < length piece.old }
     ensures { Receives session result proxy.old proxy.new (R.remaining reader.old) (R.remaining reader.new) ended.new
-        tally.old.missed tally.new.missed }
+        (counts_of tally.old) (counts_of tally.new) }
 {
     let count = read_once(reader, piece, ended)?;
     if count == 0 {

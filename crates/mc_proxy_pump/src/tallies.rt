@@ -1,7 +1,9 @@
 //! The traffic of a proxy's clients.
-ghost use Rattle.std.specs.Prelude.{◌≡◌, is_some};
+ghost use Rattle.std.specs.Prelude.{◌≡◌, ◌-◌, is_some};
 ghost use Rattle.mc_proxy_pump.specs.Tallies.{counted, fresh_tally};
+ghost use Rattle.mc_proxy_pump.specs.Work.{answer_work, request_work};
 
+use crate::limits::{QUANTUM, WORK_BYTES};
 use mc_stream::IoStats;
 
 /// The traffic of a proxy's clients.
@@ -12,6 +14,11 @@ pub struct ClientTally {
     /// Requests that were answered by a miss, or by nothing, because a command of theirs was lost; none if they are not counted. It wraps
     /// to 0 after 2^64 - 1.
     pub missed: Option<u64>,
+    /// Whether a pump of a client failed with unread bytes that name a host: a web browser sends such a line, no client of a cache does.
+    /// No pump resets it.
+    pub foreign: bool,
+    /// The work that is left to the running pump of a client, in units.
+    pub(crate) left: u64,
 }
 
 impl ClientTally {
@@ -22,6 +29,8 @@ impl ClientTally {
         ClientTally {
             passed: IoStats::new(),
             missed: counts.then_some(0),
+            foreign: false,
+            left: QUANTUM,
         }
     }
 
@@ -41,5 +50,20 @@ impl ClientTally {
         {
             self.missed = Some(missed.wrapping_add(1));
         }
+    }
+
+    /// Takes the work of a request that was taken from what is left: one unit, and one for each of its commands.
+    pub(crate) fn charge_request(&mut self, commands: usize)
+        ensures { self.new ≡ record self.old { left = self.old.left - request_work commands } }
+    {
+        self.left = self.left.saturating_sub(1).saturating_sub(commands as u64);
+    }
+
+    /// Takes the work of an answer that was emitted from what is left: one unit, and one for each whole [`WORK_BYTES`].
+    pub(crate) fn charge_answer(&mut self, bytes: usize)
+        ensures { self.new ≡ record self.old { left = self.old.left - answer_work bytes } }
+    {
+        let blocks = bytes as u64 / WORK_BYTES;
+        self.left = self.left.saturating_sub(1).saturating_sub(blocks);
     }
 }

@@ -2,10 +2,12 @@ pub mod Causes
 pub mod Changes
 pub mod Delays
 pub mod Files
+pub mod Holds
 pub mod Lists
 pub mod Lookups
 pub mod Mistakes
 pub mod Names
+pub mod Probes
 pub mod Rooms
 pub mod Servers
 pub mod Turns

@@ -1,27 +1,43 @@
--- Since when a link waits for its server, and whether the server is silent: this project's own.
-use Rattle.std.specs.Prelude.{ℕ, ◌==◌, ◌+◌, ◌-◌, ◌^◌, ◌&&◌, min, nat_le, Bool, true, false, Option, Some, None, if◌then◌else◌}
-use Rattle.std.specs.Option.{option_or}
-use Rattle.mc_proxyd.specs.declared.limits.TheConstants.{QUIET_MILLIS}
+-- How long a link's commands may wait for their replies: this project's own.
+use Rattle.std.specs.Prelude.{ℕ, ◌==◌, ◌+◌, ◌-◌, ◌*◌, ◌/◌, ◌^◌, min, nat_lt, Option, Some, None, option_map, if◌then◌else◌}
+use Rattle.mc_program.specs.Tickers.{earlier}
+use Rattle.mc_proxyd.specs.declared.limits.TheConstants.{REPLY_RATE, SAMPLE_TIMEOUTS}
+use Rattle.mc_proxyd.specs.declared.waits.Age.{Age}
+use Rattle.mc_proxyd.specs.declared.waits.Sample.{Sample}
 
--- Since when a link with this number of pending commands waits, at a moment: not at all without any, and from that moment on if bytes arrived.
--- Else it waits since the time before, or from that moment on if it did not wait before.
-abbrev pub since_after : ℕ → Bool → Option ℕ → ℕ → Option ℕ
-since_after pending came since now =
-    if pending == 0 then None else (if came then Some now else option_or since (Some now))
+-- the age of a command that is measured from a moment on, and that age once bytes have arrived, as far as 64 bits count
+abbrev pub begun_at : ℕ → Age
+begun_at now = record { since = now; bytes = 0 }
 
--- Whether a server is silent: commands were lost while they waited for it, and none got its reply since. It is silent after any such loss, and
--- not silent after any reply; without either it is as before.
-abbrev pub silent_after_losses : ℕ → Bool → Bool
-silent_after_losses lost silent = if lost == 0 then silent else true
+abbrev pub aged : ℕ → Age → Age
+aged came age = record { since = age.since; bytes = min (age.bytes + came) (2 ^ 64 - 1) }
 
-abbrev pub silent_after_replies : ℕ → Bool → Bool
-silent_after_replies replies silent = if replies == 0 then silent else false
+-- A command is late a number of milliseconds after it began to wait, and one more for each 64 bytes that arrived since: a large value may take
+-- long, at 64 KB a second or more, and a server that sends a byte now and then gains nothing by it.
+abbrev pub late_by : ℕ → Age → ℕ
+late_by span age = min (age.since + span + age.bytes / REPLY_RATE) (2 ^ 64 - 1)
 
--- Whether nobody has asked a silent server for a while, at a moment: its link has no pending command, and its connection was begun at least ten
--- seconds before, as far as 64 bits count. Nothing was asked on it, since a reply ends the silence, and a loss the connection.
-abbrev pub is_unasked : (pending begun now : ℕ) → Bool
-is_unasked pending begun now = pending == 0 && nat_le (min (begun + QUIET_MILLIS) (2 ^ 64 - 1)) now
+-- The age of the oldest pending command of a link, after a number of replies, with a number of commands pending, bytes that arrived, and the
+-- moment. A command becomes the oldest as it is sent to an idle link, or as the reply before it is taken: from then on it is measured.
+abbrev pub oldest_after : (replies pending came now : ℕ) → Option Age → Option Age
+oldest_after replies pending came now None = if pending == 0 then None else Some (begun_at now)
+oldest_after replies pending came now (Some age) =
+    if pending == 0 then None else (if replies == 0 then Some (aged came age) else Some (begun_at now))
 
--- A server whose connection is established is up, unless it is silent and was asked.
-abbrev pub is_up_by : (silent : Bool) → (pending begun now : ℕ) → Bool
-is_up_by silent pending begun now = if silent then is_unasked pending begun now else true
+-- The sampled command of a link, likewise: by the number of pending commands up to it, and with the bytes that were sent beside those that
+-- arrived, since it may be behind many. It is the newest command as it is chosen, and another is chosen once it has its reply.
+abbrev pub sample_after : (replies pending moved now : ℕ) → Option Sample → Option Sample
+sample_after replies pending moved now None =
+    if pending == 0 then None else Some (record { left = pending; age = begun_at now })
+sample_after replies pending moved now (Some sample) =
+    if pending == 0 then None else (if nat_lt replies sample.left
+    then Some (record { left = sample.left - replies; age = aged moved sample.age })
+    else Some (record { left = pending; age = begun_at now }))
+
+-- When a link is late, by its timeout: never with a timeout of 0 or without pending commands. Its oldest command has one timeout, so that a server
+-- that answers nothing is found soon. Its sampled command has two, so that no command is older than four, beside what the bytes allow: one that
+-- is sent while another is sampled has at most two timeouts until that one is answered, and then it, or a newer one behind it, is sampled.
+abbrev pub late_at : ℕ → Option Age → Option Sample → Option ℕ
+late_at timeout oldest sample = if timeout == 0 then None else earlier
+    (option_map (late_by timeout) oldest)
+    (option_map (λ sample. late_by (min (timeout * SAMPLE_TIMEOUTS) (2 ^ 64 - 1)) sample.age) sample)

@@ -9,11 +9,9 @@ use mc_net::{Listed, Operators};
 use mc_proxy::{Losses, MAX_SESSIONS, Proxy};
 use std::alloc::{AllocError, Global};
 
-/// What a proxy has done for its clients by a moment.
+/// What a proxy has done for its clients.
 #[derive(Clone, Copy, Debug)]
 pub struct Done {
-    /// The moment, in milliseconds.
-    pub now: u64,
     /// The clients, and their traffic.
     pub clients: ClientFigures,
     /// Their requests whose answers hide a loss; none if these are not counted.
@@ -47,7 +45,7 @@ fn try_show(
     proxy: &Proxy,
     settings: &ProxySettings,
 ) -> Result<(), AllocError> {
-    let links = pool.figures(proxy, done.now)?;
+    let links = pool.figures(proxy)?;
     let mut figures = Vec::new(alloc);
     push_client_figures(&done.clients, &mut figures)?;
     push_missed(done.missed, &mut figures)?;

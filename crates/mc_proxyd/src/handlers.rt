@@ -1,16 +1,18 @@
 //! The handler of a proxy's clients.
 ghost use Rattle.std.specs.Prelude.{◌≡◌, ◌<◌, vec_len};
 
+use crate::holds::{Held, held_after};
 use crate::limits::CLIENT_ROOM;
 use crate::pools::is_marked;
-use mc_net::{AfterPump, Client, Guard, Handler, Input, PIECE_LEN, step_after};
+use mc_net::{AfterPump, Client, Handler, Input, PIECE_LEN, step_after};
 use mc_program::ServeError;
-use mc_proxy::{Losses, MAX_SESSIONS, Proxy};
+use mc_proxy::{Losses, MAX_SESSIONS, MAX_UNANSWERED, Proxy, UNSENT_MARK};
 use mc_proxy_pump::{ClientTally, Pumped, is_owed, pump_answers, pump_client};
 use mc_ring::{Ring, SERVER_LIMIT};
 use mc_stream::IoStats;
 use std::alloc::Global;
 use std::collections::HashMap;
+use std::mem;
 
 /// What a proxy keeps of a client.
 #[derive(Clone, Copy, Default)]
@@ -18,9 +20,34 @@ pub struct ClientState {
     /// How many bytes a client has sent, and servers have sent for it, since it last had no pending answer: no fewer than are buffered
     /// for it.
     pub buffered: u64,
+    /// Why its next request waits, if it does.
+    held: Held,
     /// A bit for each place of a server for which the next request is known to have no command. A server that joins only takes keys, so
     /// no bit becomes wrong by it.
     not_for: u64,
+    /// A bit for each place of a server for which the next request is known to have a command.
+    is_for: u64,
+}
+
+impl ClientState {
+    /// Releases the client, if a link holds it: its next request may be taken now, as far as is known.
+    pub fn release(&mut self) {
+        if self.held == Held::ByLink {
+            self.held = Held::No;
+        }
+    }
+
+    /// Releases the client after a server has joined or a link was lost. The servers of its next request may be others than before.
+    pub fn release_anew(&mut self) {
+        self.release();
+        self.is_for = 0;
+    }
+
+    /// Forgets what is known of its next request.
+    fn forget_next(&mut self) {
+        self.not_for = 0;
+        self.is_for = 0;
+    }
 }
 
 /// A proxy, and what its clients share.
@@ -62,24 +89,52 @@ impl ProxyHandler {
         self.keys.get(&session).copied()
     }
 
-    /// Returns whether a client can go on, of which the next request may have waited for one of the links to the servers at some places. While
-    /// another link is at its mark, the request is read once for each place, until the client is served: so requests that wait long cost
-    /// little, however often a link falls below its mark.
+    /// Returns whether a client can go on that a link holds, and of which the next request may have waited for one of the links to the servers at
+    /// some places. While another link is at its mark, the request is read once for each place, until it is taken: so requests that wait long
+    /// cost little, however often a link falls below its mark.
     pub fn can_resume(&self, client: &mut Client<ClientState>, places: &[usize]) -> bool {
+        if client.kept.held != Held::ByLink {
+            return false;
+        }
         if !self.is_any_marked() {
-            return self.proxy.can_turn(client.number);
+            return true;
         }
         for place in places {
             let bit = bit_of(*place);
             if client.kept.not_for & bit != 0 || is_marked(&self.proxy, *place) {
                 continue;
             }
-            if self.proxy.waits_for(client.number, *place) {
+            if client.kept.is_for & bit != 0 || self.proxy.waits_for(client.number, *place) {
+                client.kept.is_for |= bit;
                 return true;
             }
             client.kept.not_for |= bit;
         }
         false
+    }
+
+    /// Returns whether a client has reached a mark of its own.
+    fn is_own_marked(&self, number: u64) -> bool {
+        self.proxy.unanswered(number) >= MAX_UNANSWERED
+            || self.proxy.output(number).len() >= UNSENT_MARK
+    }
+
+    /// Returns whether a client is held: it is only sent its answers.
+    fn is_held(&self, client: &Client<ClientState>) -> bool {
+        let held = client.kept.held;
+        held != Held::No && held.holds(self.is_own_marked(client.number))
+    }
+
+    /// Records how the last pump of a client ended, and whether it took a request.
+    fn note_pumped(&self, client: &mut Client<ClientState>, pumped: Pumped, took: bool)
+        ensures { client.new.number ≡ client.old.number }
+    {
+        let is_ready = pumped == Pumped::Blocked && self.proxy.ready(client.number);
+        let is_marked = is_ready && self.is_own_marked(client.number);
+        client.kept.held = held_after(pumped, is_ready, is_marked);
+        if took || client.kept.held != Held::ByLink {
+            client.kept.forget_next();
+        }
     }
 
     /// Returns whether a link has reached its mark of unsent bytes.
@@ -92,8 +147,9 @@ impl ProxyHandler {
         places.iter().all(|place| is_marked(&self.proxy, *place))
     }
 
-    /// Sends a client its answers, and returns what is done with it next. Once it has no pending answer, it is served again.
-    fn drain(&mut self, client: &mut Client<ClientState>) -> AfterPump
+    /// Sends a client its answers, and returns what is done with it next. It is served again once it is not held, or, if it was not, once it
+    /// has no pending answer.
+    fn drain(&mut self, client: &mut Client<ClientState>, was_held: bool) -> AfterPump
         ensures { client.new.number ≡ client.old.number }
     {
         let mut output = &client.stream;
@@ -104,7 +160,12 @@ impl ProxyHandler {
                 if !owed {
                     client.kept.buffered = 0;
                 }
-                if moved || !owed {
+                let is_free = if was_held {
+                    !self.is_held(client)
+                } else {
+                    !owed
+                };
+                if moved || is_free {
                     AfterPump::GoOn
                 } else {
                     AfterPump::Wait
@@ -118,10 +179,7 @@ impl ProxyHandler {
         ensures { client.new.number ≡ client.old.number }
     {
         let mut input = Input {
-            stream: Guard {
-                stream: &client.stream,
-                first: client.first,
-            },
+            stream: &client.stream,
             readiness: client.readiness,
         };
         let mut output = &client.stream;
@@ -135,7 +193,6 @@ impl ProxyHandler {
             &mut self.tally,
         );
         client.readiness = input.readiness;
-        client.first = input.stream.first;
         pumped
     }
 }
@@ -160,16 +217,27 @@ impl Handler<ClientState> for ProxyHandler {
         let _ = self.proxy.gone(number);
     }
 
-    /// Serves a client. If too many bytes are buffered for it, the proxy only sends its answers.
+    /// Serves a client. If it is held, or too many bytes are buffered for it, the proxy only sends its answers.
+    ///
+    /// A client that its own mark holds is free once that has fallen, by answers that its servers or its socket have taken: each of these is an
+    /// event for which it is served. One that a link holds is released by the loop, before it is served: if a link falls below its mark and its
+    /// request needs that link; and with all others if a link is lost, moves or fails, or a server has joined. Only a link's own pump and its loss
+    /// lower what is unsent on it, so none falls below its mark unseen. What a held client sends meanwhile, and the end of its input, are read once
+    /// it is free.
     fn serve(&mut self, client: &mut Client<ClientState>, _moment: u64) -> AfterPump {
-        client.kept.not_for = 0;
-        if client.kept.buffered > self.most {
-            return self.drain(client);
+        let is_held = self.is_held(client);
+        if is_held || client.kept.buffered > self.most {
+            return self.drain(client, is_held);
         }
-        let before = self.tally.passed.read;
+        let before = self.tally.passed;
         let pumped = self.pump(client);
+        if mem::replace(&mut self.tally.foreign, false) {
+            return AfterPump::TurnAway;
+        }
+        let after = self.tally.passed;
+        self.note_pumped(client, pumped, after.requests != before.requests);
         if is_owed(&self.proxy, client.number) {
-            let came = self.tally.passed.read.saturating_sub(before);
+            let came = after.read.saturating_sub(before.read);
             client.kept.buffered = client.kept.buffered.saturating_add(came);
         } else {
             client.kept.buffered = 0;

@@ -51,9 +51,18 @@ pub const LONGEST_DELAY: u64 = 4000;
 /// tried.
 pub const NEXT_DELAY: u64 = 1000;
 
-/// A silent server counts as up once its connection was begun this number of milliseconds ago, if no command was sent on it: then no client asks
-/// for its keys. It is longer than the pauses of clients that do ask, so that a server that hangs stays down between two commands.
-pub const QUIET_MILLIS: u64 = 10_000;
+/// A server to which a connection is established has not answered if its answer to `version` is not there after this number of milliseconds.
+pub const PROBE_MILLIS: u64 = 3000;
+
+/// The most bytes of a server's answer to `version`, its line end included.
+pub const PROBE_LIMIT: usize = 128;
+
+/// A command may wait a millisecond longer for each of this number of bytes that arrive meanwhile: at 64 KB a second a reply of any size arrives
+/// in time.
+pub const REPLY_RATE: u64 = 64;
+
+/// The sampled command of a link may wait for this number of timeouts: 2. So no command waits for more than twice as many.
+pub const SAMPLE_TIMEOUTS: u64 = 2;
 
 /// A notice about a server is printed within this number of milliseconds: at most one line a second.
 pub const NOTICE_DELAY: u64 = 1000;

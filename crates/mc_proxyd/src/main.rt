@@ -9,18 +9,20 @@
 //!
 //! [`serve`] serves the clients that a listener accepts, and keeps a connection to each server of the ring, if the server can be reached. Each server
 //! is tried once before the first client is accepted, and again and again while it is down, with backoff. No client waits for a connection, nor for a
-//! look-up of a host: look-ups have threads of their own. A connection that is given up is reset. [`ProxySettings`] says when serving ends, how long a
-//! server with pending commands may be silent, when an idle client is closed, and how often the proxy reports its work. It also says where the servers
-//! are, which one joins and which file lists them. A server that is appended to that file joins, and a new address behind a name replaces the old one.
-//! The number of clients is limited so that each server has a descriptor ([`files_of`]). The pumps are [`mc_proxy_pump::pump_client`] and
-//! [`mc_proxy_pump::pump_link`], which have the law of a client's stream and of a server's. [`command`] and [`Options`] are the command line of
-//! [`PROGRAM`], and a [`NamedServer`] is what a word of it names. [`tell_mistake`] reports which word, or which line of the file, names none.
+//! look-up of a host: look-ups have threads of their own. Once a connection is established, its server is asked for its version, and its link is up
+//! once it has answered: the system accepts connections even for a stopped process. A connection that is given up is reset. [`ProxySettings`] says
+//! when serving ends, how long a command may wait for its reply, when an idle client is closed, and how often the proxy reports its work. It also
+//! says where the servers are, which one joins and which file lists them. A server that is appended to that file joins, and a new address behind a
+//! name replaces the old one. The number of clients is limited so that each server has a descriptor ([`files_of`]). The pumps are
+//! [`mc_proxy_pump::pump_client`] and [`mc_proxy_pump::pump_link`], which have the law of a client's stream and of a server's. [`command`] and
+//! [`Options`] are the command line of [`PROGRAM`], and a [`NamedServer`] is what a word of it names. [`tell_mistake`] reports which word, or which
+//! line of the file, names none.
 //!
 //! The answer to a request whose command is lost is a choice of [`ProxySettings`] too, the same for all clients.
 //!
 //! On standard error it reports changes of its servers by lines `mc_proxyd: <server> <what>`. A line is printed if it differs from the last one about
 //! the server, and at most one a second for each. The line of a new address is printed at once, beside these. A server that is reachable from the
-//! start gets no line. A lost server is back with its first reply.
+//! start gets no line. A lost server is back once it answers.
 //!
 //! [`serve`] blocks on its sockets, possibly for ever; it and [`Options::of`] block on the file of servers. No contract says what a socket or a file
 //! carries, what a look-up finds, or that a thread begins.
@@ -30,6 +32,7 @@ mod changes;
 mod delays;
 mod figures;
 mod handlers;
+mod holds;
 mod joining;
 mod limits;
 mod listings;
@@ -41,6 +44,7 @@ mod mistakes;
 mod notices;
 mod options;
 mod pools;
+mod probes;
 mod proxy_loops;
 mod questions;
 mod resolving;

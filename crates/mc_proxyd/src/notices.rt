@@ -32,10 +32,14 @@ pub enum Cause {
     /// The connection was not established after [`CONNECT_MILLIS`](crate::limits::CONNECT_MILLIS).
     #[error("timed out")]
     TimedOut,
-    /// The server has pending commands, and has sent nothing for longer than the settings allow.
+    /// The connection was established, and the server has not answered `version` after [`PROBE_MILLIS`](crate::limits::PROBE_MILLIS).
+    #[error("no answer")]
+    NoAnswer,
+    /// A pending command has waited for longer than the settings allow.
     #[error("no reply in time")]
     Late,
-    /// A protocol violation: the bytes are no reply to the oldest pending command, or no command was pending.
+    /// A protocol violation: the bytes are no reply to the oldest pending command, or no command was pending, or they are no answer to
+    /// `version`.
     #[error("strange reply")]
     Strange,
     /// The connection has ended or failed.
@@ -91,9 +95,9 @@ impl From<io::Error> for Cause {
 /// of servers, `not taken: <mistake>`, `taken again`.
 #[derive(Clone, Copy, Debug, PartialEq, Eq)]
 pub enum Notice {
-    /// It has replied.
+    /// It has answered, and its link is up.
     Back,
-    /// It cannot be connected to.
+    /// It cannot be connected to, or does not answer as a server of memcached's protocol does.
     Refused(Cause),
     /// Its connection was lost.
     Lost(Cause),

@@ -281,7 +281,7 @@ fn timeout<'a>(alloc: Global) -> Arg<'a> {
         .value_parser(ValueParser::unsigned(0, u64::MAX))
         .default_value("1000")
         .help(
-            "Give up the connection to a server that has pending commands and has sent nothing for that long; 0 for never",
+            "Give up the connection to a server whose next reply takes that long, or any reply four times as long; 0 for never",
         )
 }
 

@@ -24,7 +24,7 @@ pub struct Upstreams {
     upstreams: Vec<Upstream>,
     /// The look-ups of hosts; none if no server may have a host's name.
     lookups: Option<Lookups>,
-    /// The timeout in milliseconds after which a server that has pending commands and sends nothing loses its link; 0 for never.
+    /// The timeout in milliseconds after which a server with a pending command loses its link; 0 for never.
     timeout: u64,
     /// A random number, another at each try, which decides when upstreams that failed are tried again.
     random: u64,
@@ -103,18 +103,18 @@ impl Upstreams {
         any
     }
 
-    /// Prints on standard error the state of each upstream at a moment.
-    pub fn report<R: Eprint>(&self, rt: &R, proxy: &Proxy, now: u64) {
+    /// Prints on standard error the state of each upstream.
+    pub fn report<R: Eprint>(&self, rt: &R, proxy: &Proxy) {
         for (place, upstream) in self.upstreams.iter().enumerate() {
-            upstream.report(rt, proxy.waiting(place), now);
+            upstream.report(rt, proxy.waiting(place));
         }
     }
 
-    /// Returns the state of each upstream at a moment, as figures.
-    pub fn figures(&self, proxy: &Proxy, now: u64) -> Result<Vec<LinkFigures<'_>>, AllocError> {
+    /// Returns the state of each upstream, as figures.
+    pub fn figures(&self, proxy: &Proxy) -> Result<Vec<LinkFigures<'_>>, AllocError> {
         let mut links = Vec::with_capacity(self.alloc, self.upstreams.len())?;
         for (place, upstream) in self.upstreams.iter().enumerate() {
-            links.push(upstream.figures(proxy.waiting(place), now))?;
+            links.push(upstream.figures(proxy.waiting(place)))?;
         }
         Ok(links)
     }
@@ -158,14 +158,14 @@ impl Upstreams {
         }
     }
 
-    /// Records an event of the upstream whose token it has.
-    pub fn note(&mut self, proxy: &mut Proxy, event: &Event) {
+    /// Records an event of the upstream whose token it has, at a moment.
+    pub fn note(&mut self, event: &Event, now: u64) {
         let Token(token) = event.token();
         let Some(place) = token.checked_sub(MAX_SESSIONS) else {
             return;
         };
         if let Some(upstream) = self.upstreams.get_mut(place) {
-            upstream.note(event, proxy, place);
+            upstream.note(event, now);
         }
     }
 
@@ -173,7 +173,8 @@ impl Upstreams {
     /// sessions that were answered to `woken`, and the places of the links that fell below their mark to `freed`. The result is whether
     /// any other session may go on, since an upstream was lost or there was no memory to note one.
     ///
-    /// An upstream that fails is dropped and its link is lost: its pending commands are lost, and it is tried again.
+    /// An upstream that fails is dropped and its link is lost: its pending commands are lost, and it is tried again. One whose link is not up is
+    /// asked whether it answers, and has no commands.
     pub fn pump_links(
         &mut self,
         proxy: &mut Proxy,
@@ -197,7 +198,7 @@ impl Upstreams {
             }
             match step_after(pumped) {
                 AfterPump::GoOn | AfterPump::Wait => {}
-                AfterPump::Close => {
+                AfterPump::Close | AfterPump::TurnAway => {
                     upstream.lose(proxy, place);
                     others = true;
                 }
@@ -237,7 +238,7 @@ fn token_of(place: usize) -> Token {
 fn upstream_to(alloc: Global, name: &Address, address: &Address) -> Result<Upstream, AllocError> {
     let name = String::from_utf8_lossy(alloc, name.as_bytes())?;
     let address = String::from_utf8_lossy(alloc, address.as_bytes())?;
-    Ok(Upstream::new(name, address))
+    Ok(Upstream::new(alloc, name, address))
 }
 
 /// Returns the number after a random one: a step of a generator that has each number of 64 bits in turn.

@@ -197,6 +197,7 @@ impl<'a> ProxyLoop<'a> {
         if let Some(client) = self.clients.get_mut(key)
             && self.handler.can_resume(client, freed)
         {
+            client.kept.release();
             self.clients.serve(&mut self.handler, key, self.second);
         }
     }
@@ -226,8 +227,13 @@ impl<'a> ProxyLoop<'a> {
         None
     }
 
-    /// Serves all clients.
+    /// Serves all clients: a link was lost, or a server has joined, so that no link holds any of them.
     fn serve_all(&mut self) {
+        for key in 0..MAX_SESSIONS {
+            if let Some(client) = self.clients.get_mut(key) {
+                client.kept.release_anew();
+            }
+        }
         for _ in 0..self.woken.len() {
             if self.take_woken().is_none() {
                 break;
@@ -333,7 +339,6 @@ impl<'a> ProxyLoop<'a> {
         let clients = report.figures(pid, time, resident, MAX_SESSIONS);
         let handler = &self.handler;
         let done = Done {
-            now: self.now,
             clients,
             missed: handler.tally.missed,
         };
@@ -357,7 +362,7 @@ impl<'a> ProxyLoop<'a> {
             None => eprintln!(rt; "{PROGRAM}: {report}"),
             Some(missed) => eprintln!(rt; "{PROGRAM}: {report} missed={missed}"),
         };
-        self.pool.report(rt, &self.handler.proxy, self.now);
+        self.pool.report(rt, &self.handler.proxy);
     }
 }
 
@@ -389,7 +394,6 @@ impl<'a, R: Net + Clock + Files + Print + EprintSeldom> LoopHandler<R, Stopwatch
     fn begin(&mut self, rt: &R, clock: &mut Stopwatch) {
         self.now = clock.millis(rt);
         self.second = self.now / 1000;
-        self.clients.go_on(&mut self.handler, self.second);
     }
 
     fn wake(&mut self, event: &Event) {
@@ -397,14 +401,16 @@ impl<'a, R: Net + Clock + Files + Print + EprintSeldom> LoopHandler<R, Stopwatch
         if self.operators.has(event.token()) {
             self.operators.note(event);
         } else if key >= MAX_SESSIONS {
-            self.pool.note(&mut self.handler.proxy, event);
+            self.pool.note(event, self.now);
         } else {
-            self.clients.wake(&mut self.handler, event, self.second);
+            self.clients.wake(event, self.second);
         }
     }
 
-    /// Loses the upstreams on which a reply is late once all that arrived was taken, and answers the clients whose commands are lost.
+    /// Serves the clients that are ready, and carries the bytes of the links. Then it loses the upstreams on which a reply is late once all that
+    /// arrived was taken, and answers the clients whose commands are lost.
     fn carry_on(&mut self, registry: &Registry) {
+        self.clients.serve_ready(&mut self.handler, self.second);
         self.pump_links();
         self.give_up();
         self.follow_join();

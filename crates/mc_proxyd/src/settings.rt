@@ -17,8 +17,8 @@ pub struct ProxySettings {
     pub losses: Losses,
     /// If more bytes are buffered for one client, its turns and reads stop until it has no pending answer.
     pub held: u64,
-    /// The timeout in milliseconds after which a server that has pending commands and sends nothing loses its link; 0 for
-    /// never.
+    /// The timeout of a server's replies in milliseconds; 0 for none. A server whose oldest pending command waits for longer loses its link, and
+    /// so does one of which any command waits for four times as long. While bytes arrive, a command may wait longer.
     pub timeout: u64,
     /// Where the servers of the ring are: an address for each, in its order.
     pub addresses: Vec<Address>,

@@ -2,10 +2,11 @@
 ghost use Rattle.std.specs.Prelude.{◌<◌, length};
 
 use crate::delays::delay_after;
-use crate::limits::{CONNECT_MILLIS, LINK_KEEPALIVE, NEXT_DELAY, NOTICE_DELAY};
+use crate::limits::{CONNECT_MILLIS, LINK_KEEPALIVE, NEXT_DELAY, NOTICE_DELAY, PROBE_MILLIS};
 use crate::lookups::{Lookup, Lookups, NextLookup, next_by};
 use crate::notices::{Cause, Notice, Notices, tell};
 use crate::options::PROGRAM;
+use crate::probes::{Probe, ProbeAnswer};
 use crate::turns::{ConnectTurn, Stage, turn_by};
 use crate::waits::Waits;
 use mc_admin::LinkFigures;
@@ -17,6 +18,7 @@ use mc_stream::IoStats;
 use mio::event::Event;
 use mio::net::TcpStream;
 use mio::{Interest, Registry, Token};
+use std::alloc::Global;
 use std::mem;
 use std::net::{Net, SocketAddr};
 
@@ -29,13 +31,16 @@ enum State {
     Asking,
     /// It was begun, and no event has said whether it is established.
     Connecting(TcpStream),
-    /// It is established, and the proxy's link is up.
+    /// It is established, the proxy's link is down, and the server has not answered the question.
+    Probing(TcpStream, Probe),
+    /// The server has answered, and the proxy's link is up.
     Up(TcpStream),
 }
 
 /// The server at a place, as a proxy reaches it.
 #[derive(Drop)]
 pub struct Upstream {
+    alloc: Global,
     /// Its name: `<name>:<port>`.
     name: String,
     /// Where it is: `<host>:<port>`.
@@ -43,35 +48,40 @@ pub struct Upstream {
     state: State,
     /// The look-up of its host that was begun last, if no try has taken its answer.
     lookup: Option<Lookup>,
-    /// When it was tried last, in milliseconds.
+    /// When it was tried last, in milliseconds, or when the connection of that try was established.
     begun: u64,
     /// When it may be tried next.
     next: u64,
     /// How many tries failed in a row.
     failures: u32,
-    /// Whether the first connection was established, or the first try failed; true too if nobody waits for that.
+    /// Whether the server has answered the first try, or that has failed; true too if nobody waits for that.
     pub tried: bool,
     readiness: Readiness,
-    /// Whether its socket may be ready: only if it is up.
+    /// Whether its socket may be ready: only if its connection is established.
     pub stirred: bool,
     notices: Notices,
     waits: Waits,
-    /// How often an established connection was lost.
+    /// How often its link was lost.
     losses: u64,
     /// How many bytes have arrived since the last reply but one was taken: no fewer than are buffered of a partial reply.
     unread: u64,
     /// How many bytes the replies have at most that its last pump took.
     pub brought: u64,
-    /// Whether its last pump read anything.
-    came: bool,
+    /// How many bytes its last pump read.
+    came: u64,
+    /// The bytes that the last pump sent to the server.
+    sent: u64,
+    /// How many replies its last pump took.
+    replies: usize,
     /// Why the system has ended the connection, if it did.
     failure: Option<Cause>,
 }
 
 impl Upstream {
     /// Makes an upstream to which no connection was begun.
-    pub fn new(name: String, address: String) -> Upstream {
+    pub fn new(alloc: Global, name: String, address: String) -> Upstream {
         Upstream {
+            alloc,
             name,
             address,
             state: State::Down,
@@ -87,26 +97,21 @@ impl Upstream {
             losses: 0,
             unread: 0,
             brought: 0,
-            came: false,
+            came: 0,
+            sent: 0,
+            replies: 0,
             failure: None,
         }
     }
 
-    /// Returns whether the connection is established.
+    /// Returns whether its server has answered, and its link is up.
     pub fn is_up(&self) -> bool {
         matches!(self.state, State::Up(_))
     }
 
-    /// Returns whether the connection is established, or the last try has failed.
+    /// Returns whether it is up, or the last try has failed.
     pub fn is_settled(&self) -> bool {
         self.is_up() || self.failures > 0
-    }
-
-    /// Returns whether its server is reported as up at a moment, with this number of pending commands. That is so if the connection is
-    /// established, and a reply has arrived since commands were last lost, or nobody has asked since the connection was begun, some time ago. The
-    /// system accepts connections even for a stopped process.
-    fn serves(&self, waiting: usize, now: u64) -> bool {
-        self.is_up() && self.waits.is_up(waiting, self.begun, now)
     }
 
     /// Returns whether a notice about it is due.
@@ -127,12 +132,13 @@ impl Upstream {
             State::Down => Stage::Down,
             State::Asking => Stage::Asking,
             State::Connecting(_) => Stage::Connecting,
+            State::Probing(_, _) => Stage::Probing,
             State::Up(_) => Stage::Up,
         }
     }
 
     /// Tries the server if it is down and it is time for that, and goes on with a try that waits for a look-up. It gives up a try that takes
-    /// longer than [`CONNECT_MILLIS`]. It blocks on neither. A random number decides when the next try begins if this one fails.
+    /// longer than [`CONNECT_MILLIS`], or whose server does not answer within [`PROBE_MILLIS`]. It blocks on none of these. A random number decides when the next try begins if this one fails.
     pub fn reconnect<R: Net>(
         &mut self,
         rt: &R,
@@ -158,6 +164,16 @@ impl Upstream {
                 self.refuse(cause);
             }
         }
+    }
+
+    /// Sets when the next connection may begin, if the one that begins now fails, or has failed now. The system has accepted a connection whose
+    /// server does not answer: it is tried again as after a first failure, so that a server that was stopped is soon used once it goes on.
+    fn delay(&mut self, now: u64, random: u64) {
+        let failures = match self.state {
+            State::Probing(_, _) => 1,
+            _ => self.failures.saturating_add(1),
+        };
+        self.next = now.saturating_add(delay_after(failures, random));
     }
 
     /// Goes on with a try, as far as its server's address is known.
@@ -213,17 +229,12 @@ impl Upstream {
         }
     }
 
-    /// Sets when the next connection may begin, if the one that begins now fails, or has failed now.
-    fn delay(&mut self, now: u64, random: u64) {
-        let failures = self.failures.saturating_add(1);
-        self.next = now.saturating_add(delay_after(failures, random));
-    }
-
     /// Returns when something must be done for it without an event, at the earliest. A connection must be begun or given up, a reply is late, or a
-    /// notice is due. A server that sends nothing for `timeout` milliseconds is late; 0 for never.
+    /// notice is due. The timeout is in milliseconds, 0 for none.
     pub fn due(&self, now: u64, timeout: u64) -> Option<u64> {
         let own = match self.state {
-            State::Up(_) => self.late(timeout),
+            State::Up(_) => self.waits.late(timeout),
+            State::Probing(_, _) => Some(self.begun.saturating_add(PROBE_MILLIS)),
             State::Asking | State::Connecting(_) => Some(self.begun.saturating_add(CONNECT_MILLIS)),
             State::Down => Some(self.next),
         };
@@ -231,17 +242,10 @@ impl Upstream {
         earlier(own, self.is_due().then_some(said))
     }
 
-    /// Returns when it is late, if it has pending commands.
-    fn late(&self, timeout: u64) -> Option<u64> {
-        if timeout == 0 {
-            return None;
-        }
-        self.waits.late(timeout)
-    }
-
-    /// Returns whether it has pending commands, and has sent nothing for too long.
+    /// Returns whether a pending command has waited for too long, and all that has arrived was taken.
     pub fn is_late(&self, now: u64, timeout: u64) -> bool {
-        self.is_up() && self.late(timeout).is_some_and(|late| now >= late)
+        let late = self.waits.late(timeout);
+        self.is_up() && !self.stirred && late.is_some_and(|late| now >= late)
     }
 
     /// Begins a connection to an address of the server. The error is why it could not.
@@ -253,7 +257,9 @@ impl Upstream {
         address: SocketAddr,
     ) -> Result<(), Cause> {
         let mut stream = TcpStream::connect(rt, address)?;
-        registry.register(&mut stream, token, Interest::READABLE | Interest::WRITABLE)?;
+        // An event of an urgent byte says that a read may end in front of it.
+        let interest = Interest::READABLE | Interest::WRITABLE | Interest::PRIORITY;
+        registry.register(&mut stream, token, interest)?;
         // A server whose commands may be delayed is used all the same.
         let _ = stream.set_nodelay(true);
         keep_alive_by(&stream, LINK_KEEPALIVE);
@@ -262,29 +268,65 @@ impl Upstream {
         Ok(())
     }
 
-    /// Records an event. For a connection that was begun it says whether it is established, or has failed.
-    pub fn note(&mut self, event: &Event, proxy: &mut Proxy, server: usize) {
+    /// Records an event at a moment. For a connection that was begun it says whether it is established, or has failed.
+    pub fn note(&mut self, event: &Event, now: u64) {
         self.readiness.note(event);
         match &self.state {
             State::Connecting(stream) => match arrival(stream, event) {
                 Ok(false) => {}
-                Ok(true) => self.arrive(proxy, server),
+                Ok(true) => self.ask(now),
                 Err(cause) => self.refuse(cause),
             },
-            State::Up(stream) if event.is_error() => self.failure = failure_of(stream),
+            State::Up(stream) | State::Probing(stream, _) if event.is_error() => {
+                self.failure = failure_of(stream);
+            }
             _ => {}
         }
-        self.stirred = self.is_up();
+        self.stirred = matches!(self.state, State::Up(_) | State::Probing(_, _));
     }
 
-    /// Marks the connection as established, and brings the link up.
+    /// Marks the connection as established at a moment: its server is asked whether it answers. The system accepts connections even for a stopped
+    /// process, so the link stays down until then.
+    fn ask(&mut self, now: u64) {
+        if let State::Connecting(stream) = mem::replace(&mut self.state, State::Down) {
+            self.begun = now;
+            self.next = now.saturating_add(NEXT_DELAY);
+            self.failure = None;
+            self.state = State::Probing(stream, Probe::new(self.alloc));
+        }
+    }
+
+    /// Carries the question and its answer. Once the answer has arrived whole, the link is brought up. If the bytes are another, the connection is
+    /// dropped: nothing was sent on it but the question.
+    fn probe(&mut self, proxy: &mut Proxy, server: usize) {
+        let State::Probing(stream, probe) = &mut self.state else {
+            return;
+        };
+        let mut input = Input {
+            stream: &*stream,
+            readiness: self.readiness,
+        };
+        let mut output = &*stream;
+        let answer = probe.turn(&mut input, &mut output);
+        self.readiness = input.readiness;
+        self.stirred = !self.readiness.would_block();
+        match answer {
+            Ok(ProbeAnswer::Partial) => {}
+            Ok(ProbeAnswer::Whole) => self.arrive(proxy, server),
+            Ok(ProbeAnswer::Strange) => self.refuse(Cause::Strange),
+            Err(Cause::Ended) => self.refuse(self.failure.unwrap_or(Cause::Ended)),
+            Err(cause) => self.refuse(cause),
+        }
+    }
+
+    /// Brings the link of a server up that has answered.
     fn arrive(&mut self, proxy: &mut Proxy, server: usize) {
         match mem::replace(&mut self.state, State::Down) {
-            State::Connecting(stream) if proxy.back(server).is_ok() => {
+            State::Probing(stream, _) if proxy.back(server).is_ok() => {
                 self.tried = true;
                 self.failures = 0;
-                self.next = self.begun.saturating_add(NEXT_DELAY);
                 self.state = State::Up(stream);
+                self.notices.note(Notice::Back);
             }
             _ => self.refuse(Cause::Ended),
         }
@@ -293,13 +335,15 @@ impl Upstream {
     /// Drops the connection that was begun, and records that it failed.
     fn refuse(&mut self, cause: Cause) {
         self.state = State::Down;
+        self.stirred = false;
+        self.failure = None;
         self.tried = true;
         self.failures = self.failures.saturating_add(1);
         self.notices.note(Notice::Refused(cause));
     }
 
     /// Carries its bytes, and matches replies to commands. It appends the sessions that were answered to `woken`. After a protocol violation the
-    /// commands without a reply are lost. With a reply the server is back, if it was lost.
+    /// commands without a reply are lost. Before its link is up, it only asks the server whether it answers.
     pub fn pump(
         &mut self,
         proxy: &mut Proxy,
@@ -310,6 +354,7 @@ impl Upstream {
         requires piece { 0 < length piece.old }
     {
         let State::Up(stream) = &self.state else {
+            self.probe(proxy, server);
             return Pumped::Blocked;
         };
         let mut input = Input {
@@ -332,21 +377,15 @@ impl Upstream {
         self.stirred = pumped == Pumped::Again;
         let fewer = before.saturating_sub(proxy.waiting(server));
         if proxy.is_up(server) {
-            self.note_replies(fewer);
+            self.waits.answer(fewer);
         } else {
             self.waits.lose(fewer);
         }
-        self.came = tally.read > 0;
+        self.came = tally.read;
+        self.sent = tally.written;
+        self.replies = fewer;
         self.note_brought(tally.read, fewer > 0);
         pumped
-    }
-
-    /// Records that `count` commands got their replies. If any did, the server is back, if it was lost.
-    fn note_replies(&mut self, count: usize) {
-        self.waits.answer(count);
-        if count > 0 {
-            self.notices.note(Notice::Back);
-        }
     }
 
     /// Records how many bytes arrived, and whether a reply was taken. The bytes after that reply are part of the next one.
@@ -356,9 +395,15 @@ impl Upstream {
         self.unread = if taken { came } else { unread };
     }
 
-    /// Records how many commands are pending after a pump at a moment, so that a server that sends nothing for too long is detected.
+    /// Records how many commands are pending after a pump at a moment, so that a server that does not answer in time is detected.
     pub fn note_waiting(&mut self, proxy: &Proxy, server: usize, now: u64) {
-        self.waits.note(proxy.waiting(server), self.came, now);
+        self.waits.note(
+            self.replies,
+            proxy.waiting(server),
+            self.came,
+            self.sent,
+            now,
+        );
     }
 
     /// Drops the connection, whose pump has failed, and loses the link if it is still up.
@@ -398,11 +443,11 @@ impl Upstream {
             self.lose_by(proxy, server, Cause::Moved);
         }
         self.notices.take_as_said(Notice::Lost(Cause::Moved));
-        self.waits.begin_anew();
         if let Some(lookup) = &mut self.lookup {
             lookup.give_up();
         }
         self.state = State::Down;
+        self.stirred = false;
         self.address = address;
         self.failures = 0;
         self.next = now;
@@ -410,14 +455,10 @@ impl Upstream {
         was_up
     }
 
-    /// Prints on standard error its state at a moment, and what became of its commands, `waiting` of which are pending.
-    pub fn report<R: Eprint>(&self, rt: &R, waiting: usize, now: u64) {
+    /// Prints on standard error its state, and what became of its commands, `waiting` of which are pending.
+    pub fn report<R: Eprint>(&self, rt: &R, waiting: usize) {
         let server = self.name.as_str();
-        let state = if self.serves(waiting, now) {
-            "up"
-        } else {
-            "down"
-        };
+        let state = if self.is_up() { "up" } else { "down" };
         let (losses, sent, lost) = (self.losses, self.waits.sent(waiting), self.waits.lost());
         // Best effort: a failed write to standard error must not stop serving.
         let _ = eprintln!(rt;
@@ -425,11 +466,11 @@ impl Upstream {
         );
     }
 
-    /// Returns its state at a moment, and what became of its commands, `waiting` of which are pending, as figures.
-    pub fn figures(&self, waiting: usize, now: u64) -> LinkFigures<'_> {
+    /// Returns its state, and what became of its commands, `waiting` of which are pending, as figures.
+    pub fn figures(&self, waiting: usize) -> LinkFigures<'_> {
         LinkFigures {
             server: self.name.as_bytes(),
-            up: u64::from(self.serves(waiting, now)),
+            up: u64::from(self.is_up()),
             losses: self.losses,
             sent: self.waits.sent(waiting),
             lost: self.waits.lost(),

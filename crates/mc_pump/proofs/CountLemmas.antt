@@ -1,19 +1,24 @@
--- Counts of the answers for want of memory, along stretches.
-use Rattle.std.proofs.Common.{◌≡◌, ◌∙◌, ℕ, ◌+◌, ◌%◌, ◌^◌, ◌<◌, ◌≤◌, List, [], ◌∷◌, ◌++◌, length, drop, Some, IsSome, refl, sym, ap, subst, arith}
+-- What a watch counts along stretches: answers for lack of memory, and work.
+use Rattle.std.proofs.Common.{◌≡◌, ◌∙◌, ℕ, ◌+◌, ◌-◌, ◌/◌, ◌%◌, ◌^◌, min, ◌<◌, ◌≤◌, List, [], ◌∷◌, ◌++◌, length, drop, Option, Some, IsSome, refl, sym, ap, subst, arith}
 use Rattle.std.proofs.lemmas.List.{length-append}
 use Rattle.std.proofs.Math.Nat.{mod-add-mod, mod-mod}
 use Rattle.std.proofs.Math.Seq.{drop-append_seam}
 use Rattle.mc_cache.specs.CacheState.{CacheState}
 use Rattle.mc_server.specs.Served.{ServedRequest, answer_after, cache_after}
 use Rattle.mc_server.specs.Histories.{replayed}
-use Rattle.mc_server.specs.ServerState.{Connections, ServerState, connection_at, connection_in, output_of}
-use Rattle.mc_server.specs.Turns.{IsTurn, Steps}
+use Rattle.mc_request_reader.specs.Reader.{rest_of}
+use Rattle.mc_server.specs.ServerState.{ConnectionState, Connections, ServerState, connection_at, connection_in, output_of}
+use Rattle.mc_request.specs.declared.parts.Parsed.{Parsed}
+use Rattle.mc_server.specs.Turns.{IsTurn, Steps, waiting_of}
 use Rattle.mc_server.specs.declared.turns.Turn.TheVariants.{Took, Idle, Closing}
 use Rattle.mc_server.proofs.ConnectionLemmas.{updated_own}
-use Rattle.mc_pump.specs.Counts.{Counts, refusal_in, refusals_in}
+use Rattle.mc_server.specs.Work.{work_of, work_of_first}
+use Rattle.mc_pump.specs.Work.{IsWithin, work_at, work_in}
+use Rattle.mc_pump.specs.Counts.{Counted, CountsWithin, refusal_in, refusals_in}
 use Rattle.mc_pump.specs.Rounds.{TakesTurns}
 use Rattle.mc_pump.specs.Stretches.{ConnectionStretch}
 use Rattle.mc_pump.specs.declared.limits.TheConstants.{UNSENT_MARK}
+use Rattle.mc_server.specs.declared.limits.TheConstants.{WORK_BYTES}
 use Rattle.mc_pump.proofs.StretchLemmas.{closing_takes_none, idle_takes_none, none_takes_none, stretch_closing, stretch_idle, stretch_none, stretch_then, stretch_took, taken_entry, then_takes_both, took_takes_one}
 use Rattle.mc_pump.proofs.RoundLemmas.{the_open}
 
@@ -34,29 +39,61 @@ refusals-append : (s : CacheState) (es fs : List ServedRequest) → refusals_in 
 refusals-append s [] fs = omega arith
 refusals-append s (e ∷ es) fs = let again = refusals-append (cache_after s e) es fs in omega (arith, again)
 
+-- the work of a history and of another one after it
+work-append : (s : CacheState) (es fs : List ServedRequest) → work_in s (es ++ fs) ≡ work_in s es + work_in (replayed s es) fs
+work-append s [] fs = omega arith
+work-append s (e ∷ es) fs = let again = work-append (cache_after s e) es fs in omega (arith, again)
+
+within-append : (left : ℕ) (s : CacheState) (es fs : List ServedRequest) → IsWithin left s es → IsWithin (left - work_in s es) (replayed s es) fs → IsWithin left s (es ++ fs)
+within-append left s [] fs h k = let same : left - 0 ≡ left = omega arith in subst (λ (n : ℕ). IsWithin n s fs) same k
+within-append left s (e ∷ es) fs h k =
+    let same : left - (work_at s e + work_in (cache_after s e) es) ≡ (left - work_at s e) - work_in (cache_after s e) es = omega arith in
+    (h.0, within-append (left - work_at s e) (cache_after s e) es fs h.1 (subst (λ (n : ℕ). IsWithin n (replayed (cache_after s e) es) fs) same k))
+
+-- if each entry is served only while work is left, all but the last one cost less than there is
+pub all_but_the_last : (left : ℕ) (s : CacheState) (es : List ServedRequest) (e : ServedRequest) → IsWithin left s (es ++ e ∷ []) → work_in s es < left
+all_but_the_last left s [] e h = h.0
+all_but_the_last left s (x ∷ es) e h = let again = all_but_the_last (left - work_at s x) (cache_after s x) es e h.1 in omega (arith, again)
+
 -- nothing was taken, and the count is as it was
-pub counts_still : (s : CacheState) (history : List ServedRequest) (count count' : ℕ) → history ≡ [] → count' ≡ count → Counts s history count count'
+pub counts_still : (s : CacheState) (history : List ServedRequest) (count count' : Counted) → history ≡ [] → count' ≡ count → CountsWithin s history count count'
 counts_still s history count count' none same =
-    let P : List ServedRequest → Type 0 = λ es. Counts s es count count in
-    let Q : ℕ → Type 0 = λ n. Counts s history count n in
-    subst Q (sym same) (subst P (sym none) (sum_stays (2 ^ 64) count))
+    let P : List ServedRequest → Type 0 = λ es. CountsWithin s es count count in
+    let Q : Counted → Type 0 = λ n. CountsWithin s history count n in
+    let still : CountsWithin s [] count count = record { refused = sum_stays (2 ^ 64) count.refused; within = tt; left = omega arith } in
+    subst Q (sym same) (subst P (sym none) still)
+
+-- one entry was served
+pub counts_one : (s : CacheState) (history : List ServedRequest) (e : ServedRequest) (count count' : Counted) → history ≡ e ∷ []
+    → count'.refused % 2 ^ 64 ≡ (count.refused + (refusal_in (answer_after s e) + 0)) % 2 ^ 64 → 0 < count.left → count'.left ≡ count.left - work_at s e
+    → CountsWithin s history count count'
+counts_one s history e count count' one refused some left =
+    let P : List ServedRequest → Type 0 = λ es. CountsWithin s es count count' in
+    let more : work_at s e ≡ work_at s e + 0 = omega arith in
+    let counted : CountsWithin s (e ∷ []) count count' = record { refused = refused; within = (some, tt); left = left ∙ ap (λ (n : ℕ). count.left - n) more } in
+    subst P (sym one) counted
 
 -- one stretch after another
-pub counts_then : (number moment count between count' : ℕ) (a b c : ServerState) (came more went yet : List ℕ) (h : ConnectionStretch number moment a b came went) (k : ConnectionStretch number moment b c more yet)
-    → Counts a.cache h.history count between → Counts b.cache k.history between count'
-    → Counts a.cache (stretch_then number moment a b c came more went yet h k).history count count'
+pub counts_then : (number moment : ℕ) (count between count' : Counted) (a b c : ServerState) (came more went yet : List ℕ) (h : ConnectionStretch number moment a b came went) (k : ConnectionStretch number moment b c more yet)
+    → CountsWithin a.cache h.history count between → CountsWithin b.cache k.history between count'
+    → CountsWithin a.cache (stretch_then number moment a b c came more went yet h k).history count count'
 counts_then number moment count between count' a b c came more went yet h k first second =
     let joined : (stretch_then number moment a b c came more went yet h k).history ≡ h.history ++ k.history = then_takes_both number moment a b c came more went yet h k in
-    let later : refusals_in b.cache k.history ≡ refusals_in (replayed a.cache h.history) k.history =
-    ap (λ (s : CacheState). refusals_in s k.history) h.cache.cache in
-    let all : refusals_in a.cache (h.history ++ k.history) ≡ refusals_in a.cache h.history + refusals_in b.cache k.history =
-    refusals-append a.cache h.history k.history ∙ ap (λ (n : ℕ). refusals_in a.cache h.history + n) (sym later) in
-    let P : ℕ → Type 0 = λ n. count' % 2 ^ 64 ≡ (count + n) % 2 ^ 64 in
-    let Q : List ServedRequest → Type 0 = λ es. Counts a.cache es count count' in
-    subst Q (sym joined) (subst P (sym all) (sum_goes_on (2 ^ 64) count between count' (refusals_in a.cache h.history) (refusals_in b.cache k.history) first second))
+    let middle : CacheState = replayed a.cache h.history in
+    let later : CountsWithin middle k.history between count' = subst (λ (s : CacheState). CountsWithin s k.history between count') h.cache.cache second in
+    let refusals : refusals_in a.cache (h.history ++ k.history) ≡ refusals_in a.cache h.history + refusals_in middle k.history = refusals-append a.cache h.history k.history in
+    let work : work_in a.cache (h.history ++ k.history) ≡ work_in a.cache h.history + work_in middle k.history = work-append a.cache h.history k.history in
+    let P : ℕ → Type 0 = λ n. count'.refused % 2 ^ 64 ≡ (count.refused + n) % 2 ^ 64 in
+    let Q : List ServedRequest → Type 0 = λ es. CountsWithin a.cache es count count' in
+    let both : CountsWithin a.cache (h.history ++ k.history) count count' = record {
+      refused = subst P (sym refusals) (sum_goes_on (2 ^ 64) count.refused between.refused count'.refused (refusals_in a.cache h.history) (refusals_in middle k.history) first.refused later.refused);
+      within = within-append count.left a.cache h.history k.history first.within (subst (λ (n : ℕ). IsWithin n middle k.history) first.left later.within);
+      left = omega (arith, first.left, later.left, work);
+    } in
+    subst Q (sym joined) both
 
 -- no turn was taken yet
-pub turns_none : (number moment count : ℕ) (s : ServerState) → IsSome (connection_at s number) → TakesTurns number moment s s count count
+pub turns_none : (number moment : ℕ) (count : Counted) (s : ServerState) → IsSome (connection_at s number) → TakesTurns number moment s s count count
 turns_none number moment count s there =
     let c = the_open (connection_at s number) there in
     record {
@@ -65,7 +102,7 @@ turns_none number moment count s there =
     }
 
 -- turns after turns
-turns_then : (number moment count between count' : ℕ) (a b c : ServerState) → TakesTurns number moment a b count between → TakesTurns number moment b c between count'
+turns_then : (number moment : ℕ) (count between count' : Counted) (a b c : ServerState) → TakesTurns number moment a b count between → TakesTurns number moment b c between count'
     → TakesTurns number moment a c count count'
 turns_then number moment count between count' a b c h k = record {
   stretch = stretch_then number moment a b c [] [] [] [] h.stretch k.stretch;
@@ -73,7 +110,7 @@ turns_then number moment count between count' a b c h k = record {
 }
 
 -- a turn found nothing, or that nothing is read any more
-pub turns_idle : (number moment count between : ℕ) (a b c : ServerState) → TakesTurns number moment a b count between → Steps number b c (IsTurn number moment Idle)
+pub turns_idle : (number moment : ℕ) (count between : Counted) (a b c : ServerState) → TakesTurns number moment a b count between → Steps number b c (IsTurn number moment Idle)
     → TakesTurns number moment a c count between
 turns_idle number moment count between a b c h steps =
     turns_then number moment count between between a b c h (record {
@@ -81,7 +118,7 @@ turns_idle number moment count between a b c h steps =
       counted = counts_still b.cache _ between between (idle_takes_none number moment b c steps) refl;
     })
 
-pub turns_closing : (number moment count between : ℕ) (a b c : ServerState) → TakesTurns number moment a b count between → Steps number b c (IsTurn number moment Closing)
+pub turns_closing : (number moment : ℕ) (count between : Counted) (a b c : ServerState) → TakesTurns number moment a b count between → Steps number b c (IsTurn number moment Closing)
     → TakesTurns number moment a c count between
 turns_closing number moment count between a b c h steps =
     turns_then number moment count between between a b c h (record {
@@ -104,23 +141,40 @@ output_grows number moment old new steps =
     ap (λ (bytes : List ℕ). length bytes) (turn_output number moment old new steps) in
     omega (arith, after, length-append (output_of (connection_at old number)) (answer_after old.cache (taken_entry number moment old new steps)))
 
+-- units of work that saturate are spent as if they did not
+pub spent : (units work more left left' : ℕ) → left < 2 ^ 64 → work ≡ min units (2 ^ 64 - 1) → left' ≡ left - (work + more) → left' ≡ left - (units + more)
+spent units work more left left' range is by = omega (arith, range, is, by)
+
+-- what is pending first is taken first
+pub work_of_taken : (o : Option ConnectionState) (c : ConnectionState) (what : Parsed) (more : List Parsed) (s : CacheState) → o ≡ Some c → rest_of c.reader [] ≡ what ∷ more
+    → work_of_first (waiting_of o) s ≡ work_of what s
+work_of_taken o c what more s was first = ap (λ (x : Option ConnectionState). work_of_first (waiting_of x) s) was ∙ ap (λ (ts : List Parsed). work_of_first ts s) first
+
 -- a turn took something, and its whole answer was looked at
-turn_took : (number moment count count' : ℕ) (answer : List ℕ) (old new : ServerState) → Steps number old new (IsTurn number moment Took) → length (output_of (connection_at old number)) < UNSENT_MARK
-    → answer ≡ drop (length (output_of (connection_at old number))) (output_of (connection_at new number)) → count' ≡ (count + refusal_in answer) % 2 ^ 64
-    → TakesTurns number moment old new count count'
-turn_took number moment count count' answer old new steps below is counted =
-    let own : answer ≡ answer_after old.cache (taken_entry number moment old new steps) =
+turn_took : (number moment work : ℕ) (count count' : Counted) (answer : List ℕ) (old new : ServerState) → Steps number old new (IsTurn number moment Took) → length (output_of (connection_at old number)) < UNSENT_MARK
+    → 0 < count.left → count.left < 2 ^ 64 → work ≡ min (work_of_first (waiting_of (connection_at old number)) old.cache) (2 ^ 64 - 1)
+    → answer ≡ drop (length (output_of (connection_at old number))) (output_of (connection_at new number)) → count'.refused ≡ (count.refused + refusal_in answer) % 2 ^ 64
+    → count'.left ≡ count.left - (work + length answer / WORK_BYTES) → TakesTurns number moment old new count count'
+turn_took number moment work count count' answer old new steps below some range costs is refused left =
+    let e : ServedRequest = taken_entry number moment old new steps in
+    let own : answer ≡ answer_after old.cache e =
     is ∙ ap (λ (bytes : List ℕ). drop (length (output_of (connection_at old number))) bytes) (turn_output number moment old new steps)
-    ∙ drop-append_seam (output_of (connection_at old number)) (answer_after old.cache (taken_entry number moment old new steps)) in
-    let P : List ServedRequest → Type 0 = λ es. Counts old.cache es count count' in
-    let Q : List ℕ → Type 0 = λ bytes. count' % 2 ^ 64 ≡ (count + (refusal_in bytes + 0)) % 2 ^ 64 in
+    ∙ drop-append_seam (output_of (connection_at old number)) (answer_after old.cache e) in
+    let units : work ≡ min (work_of e.what old.cache) (2 ^ 64 - 1) =
+    costs ∙ ap (λ (n : ℕ). min n (2 ^ 64 - 1)) (work_of_taken (connection_at old number) steps.before e.what _ old.cache steps.was (steps.step.1.first.rest [])) in
+    let all : count'.left ≡ count.left - (work_of e.what old.cache + length answer / WORK_BYTES) = spent (work_of e.what old.cache) work (length answer / WORK_BYTES) count.left count'.left range units left in
+    let Q : List ℕ → Type 0 = λ bytes. count'.refused % 2 ^ 64 ≡ (count.refused + (refusal_in bytes + 0)) % 2 ^ 64 in
+    let R : List ℕ → Type 0 = λ bytes. count'.left ≡ count.left - (work_of e.what old.cache + length bytes / WORK_BYTES) in
     record {
       stretch = stretch_took number moment old new steps below;
-      counted = subst P (sym (took_takes_one number moment old new steps below)) (subst Q own (sum_of_one (2 ^ 64) count count' (refusal_in answer) counted));
+      counted = counts_one old.cache (stretch_took number moment old new steps below).history e count count' (took_takes_one number moment old new steps below)
+          (subst Q own (sum_of_one (2 ^ 64) count.refused count'.refused (refusal_in answer) refused)) some (subst R own all);
     }
 
-pub turns_took : (number moment count between count' : ℕ) (answer : List ℕ) (a b c : ServerState) → TakesTurns number moment a b count between → Steps number b c (IsTurn number moment Took)
-    → length (output_of (connection_at b number)) < UNSENT_MARK → answer ≡ drop (length (output_of (connection_at b number))) (output_of (connection_at c number))
-    → count' ≡ (between + refusal_in answer) % 2 ^ 64 → TakesTurns number moment a c count count'
-turns_took number moment count between count' answer a b c h steps below is counted =
-    turns_then number moment count between count' a b c h (turn_took number moment between count' answer b c steps below is counted)
+pub turns_took : (number moment work : ℕ) (count between count' : Counted) (answer : List ℕ) (a b c : ServerState) → TakesTurns number moment a b count between → Steps number b c (IsTurn number moment Took)
+    → length (output_of (connection_at b number)) < UNSENT_MARK → 0 < between.left → between.left < 2 ^ 64
+    → work ≡ min (work_of_first (waiting_of (connection_at b number)) b.cache) (2 ^ 64 - 1)
+    → answer ≡ drop (length (output_of (connection_at b number))) (output_of (connection_at c number)) → count'.refused ≡ (between.refused + refusal_in answer) % 2 ^ 64
+    → count'.left ≡ between.left - (work + length answer / WORK_BYTES) → TakesTurns number moment a c count count'
+turns_took number moment work count between count' answer a b c h steps below some range costs is refused left =
+    turns_then number moment count between count' a b c h (turn_took number moment work between count' answer b c steps below some range costs is refused left)

@@ -2,17 +2,23 @@
 use Rattle.std.proofs.Common.{◌≡◌, refl, ℕ, Bool, false, Ok, Err, List, [], ◌++◌, Option, Some}
 use Rattle.mc_server.specs.ServerState.{ConnectionState, ServerState, connection_at}
 use Rattle.mc_stream.specs.Sides.{IsStopOfSide}
+use Rattle.mc_pump.specs.Counts.{Counted}
 use Rattle.mc_pump.specs.Pumps.{Leaves, Pumps}
-use Rattle.mc_pump.specs.Rounds.{Receives, Sends, TakesTurns}
+use Rattle.mc_pump.specs.Rounds.{PumpsPart, Receives, Sends, TakesTurns}
+use Rattle.mc_pump.specs.declared.limits.TheConstants.{QUANTUM}
 use Rattle.mc_stream.specs.declared.outcomes.Pumped.{Pumped}
 use Rattle.mc_stream.specs.declared.outcomes.Pumped.TheVariants.{Again, Blocked, Done, Failed}
 use Rattle.mc_stream.proofs.SideLemmas.{came_any, carried_as, carried_then, carried_unheard, carries_brought, carries_none, carries_sent, stop_of_read, went_any}
 use Rattle.mc_pump.proofs.CountLemmas.{counts_still, counts_then}
 use Rattle.mc_pump.proofs.StretchLemmas.{none_takes_none, stretch_none, stretch_then}
 
+-- what a watch has counted at the start of a pump
+abbrev pub begun : ℕ → Counted
+begun refused = record { refused = refused; left = QUANTUM }
+
 -- nothing was done yet
-pub pumps_none : (number moment count : ℕ) (s : ServerState) (c : ConnectionState) (unread written : Option (List ℕ)) (ended : Bool) → connection_at s number ≡ Some c
-    → Pumps number moment Again s s unread unread written written ended ended count count
+pub pumps_none : (number moment : ℕ) (count : Counted) (s : ServerState) (c : ConnectionState) (unread written : Option (List ℕ)) (ended : Bool) → connection_at s number ≡ Some c
+    → PumpsPart number moment Again s s unread unread written written ended ended count count
 pumps_none number moment count s c unread written ended was = record {
   came = [];
   went = [];
@@ -23,9 +29,9 @@ pumps_none number moment count s c unread written ended was = record {
 }
 
 -- a pump that goes on
-pub pumps_then : (number moment count between count' : ℕ) (pump : Pumped) (a b c : ServerState) (unread middle unread' written sent written' : Option (List ℕ)) (ended later ended' : Bool)
-    → Pumps number moment Again a b unread middle written sent ended later count between → Pumps number moment pump b c middle unread' sent written' later ended' between count'
-    → Pumps number moment pump a c unread unread' written written' ended ended' count count'
+pub pumps_then : (number moment : ℕ) (count between count' : Counted) (pump : Pumped) (a b c : ServerState) (unread middle unread' written sent written' : Option (List ℕ)) (ended later ended' : Bool)
+    → PumpsPart number moment Again a b unread middle written sent ended later count between → PumpsPart number moment pump b c middle unread' sent written' later ended' between count'
+    → PumpsPart number moment pump a c unread unread' written written' ended ended' count count'
 pumps_then number moment count between count' pump a b c unread middle unread' written sent written' ended later ended' h k = record {
   came = h.came ++ k.came;
   went = h.went ++ k.went;
@@ -43,8 +49,8 @@ left_by_side Done ended connection h = absurd h
 left_by_side Failed ended connection h = tt
 
 -- turns alone
-pub pumps_turns : (number moment count count' : ℕ) (pump : Pumped) (a b : ServerState) (unread written : Option (List ℕ)) (ended : Bool)
-    → TakesTurns number moment a b count count' → Leaves pump ended (connection_at b number) → Pumps number moment pump a b unread unread written written ended ended count count'
+pub pumps_turns : (number moment : ℕ) (count count' : Counted) (pump : Pumped) (a b : ServerState) (unread written : Option (List ℕ)) (ended : Bool)
+    → TakesTurns number moment a b count count' → Leaves pump ended (connection_at b number) → PumpsPart number moment pump a b unread unread written written ended ended count count'
 pumps_turns number moment count count' pump a b unread written ended h left = record {
   came = [];
   went = [];
@@ -55,8 +61,8 @@ pumps_turns number moment count count' pump a b unread written ended h left = re
 }
 
 -- a write that took bytes
-pub pumps_sent : (number moment count count' : ℕ) (moved : Bool) (a b : ServerState) (unread written written' : Option (List ℕ)) (ended : Bool)
-    → Sends number moment (Ok moved) a b written written' count count' → Pumps number moment Again a b unread unread written written' ended ended count count'
+pub pumps_sent : (number moment : ℕ) (count count' : Counted) (moved : Bool) (a b : ServerState) (unread written written' : Option (List ℕ)) (ended : Bool)
+    → Sends number moment (Ok moved) a b written written' count count' → PumpsPart number moment Again a b unread unread written written' ended ended count count'
 pumps_sent number moment count count' moved a b unread written written' ended h = record {
   came = [];
   went = h.went;
@@ -67,8 +73,8 @@ pumps_sent number moment count count' moved a b unread written written' ended h 
 }
 
 -- a write that stopped the pump
-pub pumps_unsent : (number moment count count' : ℕ) (pump : Pumped) (a b : ServerState) (unread written written' : Option (List ℕ)) (ended : Bool)
-    → Sends number moment (Err pump) a b written written' count count' → Pumps number moment pump a b unread unread written written' ended ended count count'
+pub pumps_unsent : (number moment : ℕ) (count count' : Counted) (pump : Pumped) (a b : ServerState) (unread written written' : Option (List ℕ)) (ended : Bool)
+    → Sends number moment (Err pump) a b written written' count count' → PumpsPart number moment pump a b unread unread written written' ended ended count count'
 pumps_unsent number moment count count' pump a b unread written written' ended h = record {
   came = [];
   went = h.went;
@@ -79,9 +85,9 @@ pumps_unsent number moment count count' pump a b unread written written' ended h
 }
 
 -- a read after which the pump goes on
-pub pumps_heard : (number moment count count' : ℕ) (moved : Bool) (pump : Pumped) (a b : ServerState) (unread unread' written : Option (List ℕ)) (ended ended' : Bool) → ended ≡ false
+pub pumps_heard : (number moment : ℕ) (count count' : Counted) (moved : Bool) (pump : Pumped) (a b : ServerState) (unread unread' written : Option (List ℕ)) (ended ended' : Bool) → ended ≡ false
     → Receives number moment (Ok moved) a b unread unread' ended' count count' → Leaves pump ended' (connection_at b number)
-    → Pumps number moment pump a b unread unread' written written ended ended' count count'
+    → PumpsPart number moment pump a b unread unread' written written ended ended' count count'
 pumps_heard number moment count count' moved pump a b unread unread' written ended ended' open_yet h left = record {
   came = h.came;
   went = [];
@@ -93,8 +99,8 @@ pumps_heard number moment count count' moved pump a b unread unread' written end
 }
 
 -- a read that stopped the pump
-pub pumps_unheard : (number moment count count' : ℕ) (pump : Pumped) (a b : ServerState) (unread unread' written : Option (List ℕ)) (ended ended' : Bool) → ended ≡ false
-    → Receives number moment (Err pump) a b unread unread' ended' count count' → Pumps number moment pump a b unread unread' written written ended ended' count count'
+pub pumps_unheard : (number moment : ℕ) (count count' : Counted) (pump : Pumped) (a b : ServerState) (unread unread' written : Option (List ℕ)) (ended ended' : Bool) → ended ≡ false
+    → Receives number moment (Err pump) a b unread unread' ended' count count' → PumpsPart number moment pump a b unread unread' written written ended ended' count count'
 pumps_unheard number moment count count' pump a b unread unread' written ended ended' open_yet h = record {
   came = h.came;
   went = [];
@@ -105,9 +111,9 @@ pumps_unheard number moment count count' pump a b unread unread' written ended e
 }
 
 -- turns, a write, and then a stop
-pub stopped : (number moment count between count' : ℕ) (moved : Bool) (pump : Pumped) (a b c : ServerState) (unread written written' : Option (List ℕ)) (ended : Bool)
+pub stopped : (number moment : ℕ) (count between count' : Counted) (moved : Bool) (pump : Pumped) (a b c : ServerState) (unread written written' : Option (List ℕ)) (ended : Bool)
     → TakesTurns number moment a b count between → Sends number moment (Ok moved) b c written written' between count' → Leaves pump ended (connection_at c number)
-    → Pumps number moment pump a c unread unread written written' ended ended count count'
+    → PumpsPart number moment pump a c unread unread written written' ended ended count count'
 stopped number moment count between count' moved pump a b c unread written written' ended turns sent left =
     let before = pumps_turns number moment count between Again a b unread written ended turns tt in
     let then_sent = pumps_sent number moment between count' moved b c unread written written' ended sent in
@@ -120,3 +126,17 @@ stopped number moment count between count' moved pump a b c unread written writt
       left = left;
       counted = both.counted;
     }
+
+-- a pump is a part that begins with a quantum
+pub pumped : (number moment refused : ℕ) (count' : Counted) (pump : Pumped) (a b : ServerState) (unread unread' written written' : Option (List ℕ)) (ended ended' : Bool)
+    → PumpsPart number moment pump a b unread unread' written written' ended ended' (begun refused) count'
+    → Pumps number moment pump a b unread unread' written written' ended ended' refused count'.refused
+pumped number moment refused count' pump a b unread unread' written written' ended ended' h = record {
+  came = h.came;
+  went = h.went;
+  stretch = h.stretch;
+  carried = h.carried;
+  left = h.left;
+  counted = h.counted.refused;
+  within = h.counted.within;
+}

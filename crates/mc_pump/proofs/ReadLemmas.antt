@@ -8,6 +8,7 @@ use Rattle.mc_server.specs.Turns.{Feeds, Steps}
 use Rattle.mc_stream.specs.Sides.{Brings, HowItCame, MovesNothing, Reads}
 use Rattle.mc_stream.specs.declared.outcomes.Pumped.{Pumped}
 use Rattle.mc_stream.proofs.SideLemmas.{read_none, read_stops}
+use Rattle.mc_pump.specs.Counts.{Counted}
 use Rattle.mc_pump.specs.Rounds.{Receives, moved_of}
 use Rattle.mc_pump.specs.declared.limits.TheConstants.{UNSENT_MARK}
 use Rattle.mc_pump.proofs.RoundLemmas.{receives_still}
@@ -32,7 +33,7 @@ how_unread (Ok count) piece unread unread' ended' unmoved none e still reads =
 how_unread (Err pump) piece unread unread' ended' unmoved none e still reads = read_stops pump piece ended' unread unread' reads
 
 -- what a connection is fed by such a read
-pub receives_read : {E : Type 0} (number moment count : ℕ) (read : Result ℕ E) (side : Result ℕ Pumped) (old new : ServerState) (unread unread' : Option (List ℕ)) (ended' : Bool)
+pub receives_read : {E : Type 0} (number moment : ℕ) (count : Counted) (read : Result ℕ E) (side : Result ℕ Pumped) (old new : ServerState) (unread unread' : Option (List ℕ)) (ended' : Bool)
     → IsSome (connection_at old number) → length (output_of (connection_at old number)) < UNSENT_MARK
     → (h : ReadsBy read unread unread' (λ came. Steps number old new (Feeds came)) (new ≡ old)) → Reads side h.piece ended' unread unread'
     → IfOk read (λ n. (side ≡ Ok n) × (ended' ≡ (n == 0))) → IfErr read (λ error. MovesNothing side × (ended' ≡ false))

@@ -3,14 +3,15 @@ use Rattle.std.proofs.Common.{◌≡◌, ◌∙◌, ◌⊎◌, ◌≤◌, ◌<�
 use Rattle.std.proofs.lemmas.Bool.Decides.{nat_tests}
 use Rattle.std.specs.Io.KnownBytes.{Appends}
 use Rattle.mc_server.specs.ServerState.{ConnectionState, Connections, ServerState, connection_at, connection_in, output_of, updated, sent_by}
-use Rattle.mc_server.specs.Turns.{IsTurn, Steps, waiting_of, is_closed_at}
-use Rattle.mc_server.specs.declared.turns.Turn.TheVariants.{Took, Idle, Closing}
+use Rattle.mc_server.specs.Turns.{IsTurn, Steps, waiting_of, is_closed_at, is_foreign_at}
+use Rattle.mc_server.specs.declared.turns.Turn.TheVariants.{Idle, Closing}
 use Rattle.mc_server.proofs.ConnectionLemmas.{updated_own}
 use Rattle.mc_request_reader.specs.Reader.{rest_of}
 use Rattle.mc_pump.specs.Stretches.{ConnectionStretch}
 use Rattle.mc_stream.specs.Sides.{HowItCame, HowItWent}
-use Rattle.mc_pump.specs.Pumps.{IsOver, IsStuck}
-use Rattle.mc_pump.specs.Rounds.{IsSentOf, Receives, Sends, StopsAt, ends_by, reads_by}
+use Rattle.mc_pump.specs.Counts.{Counted}
+use Rattle.mc_pump.specs.Pumps.{IsBarred, IsOver, IsStuck}
+use Rattle.mc_pump.specs.Rounds.{IsSentOf, Receives, Sends, StopsAt, ends_by, is_spent, reads_by}
 use Rattle.mc_pump.specs.declared.limits.TheConstants.{UNSENT_MARK}
 use Rattle.mc_pump.specs.declared.rounds.Stop.{Stop}
 use Rattle.mc_pump.specs.declared.rounds.Stop.TheVariants as stops
@@ -34,15 +35,6 @@ not_none (Some c) h = refl
 pub stays_open : (number moment : ℕ) (a b : ServerState) (came went : List ℕ) → ConnectionStretch number moment a b came went → IsSome (connection_at b number)
 stays_open number moment a b came went h = is_open (connection_at b number) h.after (stretch_open number moment a b came went h)
 
--- a turn leaves one less to take
-pub took_one : (number moment : ℕ) (old new : ServerState) → Steps number old new (IsTurn number moment Took) → length (waiting_of (connection_at new number)) < length (waiting_of (connection_at old number))
-took_one number moment old new steps =
-    let now : connection_at new number ≡ Some steps.after = ap (λ (cs : Connections). connection_in cs number) steps.is ∙ updated_own number steps.before steps.after old.connections steps.was in
-    let fewer : length (rest_of steps.after.reader []) < length (rest_of steps.before.reader []) = rw (steps.step.1.first.rest []) (omega arith) in
-    let P : Option ConnectionState → Type 0 = λ o. length (waiting_of o) < length (waiting_of (connection_at old number)) in
-    let Q : Option ConnectionState → Type 0 = λ o. length (rest_of steps.after.reader []) < length (waiting_of o) in
-    subst P (sym now) (subst Q (sym steps.was) fewer)
-
 -- a turn that finds none leaves none, and as much unsent
 pub found_none : (number moment : ℕ) (old new : ServerState) → Steps number old new (IsTurn number moment Idle) → length (output_of (connection_at old number)) < UNSENT_MARK
     → StopsAt stops.Idle (connection_at new number)
@@ -64,7 +56,7 @@ closed_has_none number moment old new steps =
     subst P (sym now) (none, closed)
 
 -- nothing was sent
-pub sends_still : (number moment count : ℕ) (side : Result Bool Pumped) (s : ServerState) (written written' : Option (List ℕ)) → IsSome (connection_at s number)
+pub sends_still : (number moment : ℕ) (count : Counted) (side : Result Bool Pumped) (s : ServerState) (written written' : Option (List ℕ)) → IsSome (connection_at s number)
     → HowItWent side written written' [] (s ≡ s) → Sends number moment side s s written written' count count
 sends_still number moment count side s written written' there how =
     let c = the_open (connection_at s number) there in
@@ -78,7 +70,7 @@ sends_still number moment count side s written written' there how =
     }
 
 -- the first bytes were sent
-pub sends_some : (number moment count sent : ℕ) (output : List ℕ) (old new : ServerState) (written written' : Option (List ℕ)) → IsSome (connection_at old number)
+pub sends_some : (number moment : ℕ) (count : Counted) (sent : ℕ) (output : List ℕ) (old new : ServerState) (written written' : Option (List ℕ)) → IsSome (connection_at old number)
     → output ≡ output_of (connection_at old number) → new ≡ sent_by number sent (connection_at old number) old → Appends written written' (take sent output)
     → Sends number moment (Ok true) old new written written' count count
 sends_some number moment count sent output old new written written' there unsent is appended =
@@ -100,7 +92,7 @@ sends_some number moment count sent output old new written written' there unsent
     }
 
 -- nothing arrived
-pub receives_still : (number moment count : ℕ) (side : Result Bool Pumped) (s : ServerState) (unread unread' : Option (List ℕ)) (ended' : Bool) → IsSome (connection_at s number)
+pub receives_still : (number moment : ℕ) (count : Counted) (side : Result Bool Pumped) (s : ServerState) (unread unread' : Option (List ℕ)) (ended' : Bool) → IsSome (connection_at s number)
     → HowItCame side unread unread' ended' [] (s ≡ s) → Receives number moment side s s unread unread' ended' count count
 receives_still number moment count side s unread unread' ended' there how =
     let c = the_open (connection_at s number) there in
@@ -126,6 +118,7 @@ no_more : (stop : Stop) (ended : Bool) (o : Option ConnectionState) → StopsAt 
 no_more stops.Idle ended o h e = (h.0, inl e)
 no_more stops.Closing ended o h e = (h.0, inr h.1)
 no_more stops.Marked ended o h e = absurd cc
+no_more stops.Spent ended o h e = absurd cc
 
 -- if all is sent and nothing more will arrive, the connection is over
 pub over : (stop : Stop) (ended answer : Bool) (a b : Option ConnectionState) → StopsAt stop a → IsSentOf a b → answer ≡ ((length (output_of b) == 0) && ends_by stop ended) → answer ≡ true → IsOver ended b
@@ -142,25 +135,27 @@ over stop ended answer a b h same is e =
     }
 
 -- if turns stopped, none is pending or too much is unsent
-stopped_at : (stop : Stop) (o : Option ConnectionState) → StopsAt stop o → (waiting_of o ≡ []) ⊎ (UNSENT_MARK ≤ length (output_of o))
-stopped_at stops.Idle o h = inl h.0
-stopped_at stops.Closing o h = inl h.0
-stopped_at stops.Marked o h = inr h
+stopped_at : (stop : Stop) (o : Option ConnectionState) → is_spent stop ≡ false → StopsAt stop o → (waiting_of o ≡ []) ⊎ (UNSENT_MARK ≤ length (output_of o))
+stopped_at stops.Idle o unspent h = inl h.0
+stopped_at stops.Closing o unspent h = inl h.0
+stopped_at stops.Marked o unspent h = inr h
+stopped_at stops.Spent o unspent h = absurd cc
 
 -- if nothing is unsent, and the input is read no further, it has ended
-not_read : (stop : Stop) (ended : Bool) (o : Option ConnectionState) → StopsAt stop o → reads_by stop ended ≡ false → output_of o ≡ [] → ends_by stop ended ≡ true
-not_read stops.Idle true o h e none = refl
-not_read stops.Idle false o h e none = absurd cc
-not_read stops.Closing ended o h e none = refl
-not_read stops.Marked ended o h e none = let nothing : length (output_of o) ≡ 0 = ap (λ (bytes : List ℕ). length bytes) none in absurd (omega (arith, h, nothing))
+not_read : (stop : Stop) (ended : Bool) (o : Option ConnectionState) → is_spent stop ≡ false → StopsAt stop o → reads_by stop ended ≡ false → output_of o ≡ [] → ends_by stop ended ≡ true
+not_read stops.Idle true o unspent h e none = refl
+not_read stops.Idle false o unspent h e none = absurd cc
+not_read stops.Closing ended o unspent h e none = refl
+not_read stops.Marked ended o unspent h e none = let nothing : length (output_of o) ≡ 0 = ap (λ (bytes : List ℕ). length bytes) none in absurd (omega (arith, h, nothing))
+not_read stops.Spent ended o unspent h e none = absurd cc
 
 -- if the connection is not over, and the input is read no further, it is stuck
-pub stuck : (stop : Stop) (ended answer : Bool) (o : Option ConnectionState) → StopsAt stop o → answer ≡ ((length (output_of o) == 0) && ends_by stop ended) → answer ≡ false
+pub stuck : (stop : Stop) (ended answer : Bool) (o : Option ConnectionState) → is_spent stop ≡ false → StopsAt stop o → answer ≡ ((length (output_of o) == 0) && ends_by stop ended) → answer ≡ false
     → reads_by stop ended ≡ false → IsStuck ended o
-stuck stop ended answer o h is e unread = record {
-  taken = stopped_at stop o h;
+stuck stop ended answer o unspent h is e unread = record {
+  taken = stopped_at stop o unspent h;
   goes_on = λ all.
-      let ends : ends_by stop ended ≡ true = not_read stop ended o h unread all.all_sent in
+      let ends : ends_by stop ended ≡ true = not_read stop ended o unspent h unread all.all_sent in
       let sent : (length (output_of o) == 0) ≡ true = rw all.all_sent refl in
       let clash : true ≡ false = sym (rw sent (rw ends refl)) ∙ sym is ∙ e in
       absurd cc;
@@ -172,6 +167,7 @@ read_on stops.Idle true answer o h is e = let clash : true ≡ false = sym e ∙
 read_on stops.Idle false answer o h is e = (h, refl)
 read_on stops.Closing ended answer o h is e = let clash : true ≡ false = sym e ∙ is in absurd cc
 read_on stops.Marked ended answer o h is e = let clash : true ≡ false = sym e ∙ is in absurd cc
+read_on stops.Spent ended answer o h is e = let clash : true ≡ false = sym e ∙ is in absurd cc
 
 -- a connection whose input is read on is not over
 pub unheard : (ended : Bool) (o : Option ConnectionState) → waiting_of o ≡ [] → is_closed_at o ≡ false → ended ≡ false → IsStuck ended o
@@ -182,3 +178,11 @@ unheard ended o none closed goes_on = record {
     | inr e ↦ let clash : true ≡ false = sym e ∙ closed in absurd cc
   ];
 }
+
+-- if a turn is taken of a server that is as it was if its connection is barred, the connection is not
+pub not_barred : (number left left' : ℕ) (a b : ServerState) (foreign : Bool) → (IsBarred (connection_at a number) → 0 < left → (b ≡ a) × (left' ≡ left))
+    → foreign ≡ is_foreign_at (connection_at b number) → foreign ≡ false → IsBarred (connection_at a number) → 0 < left → ⊥
+not_barred number left left' a b foreign same is passed barred some =
+    let here : is_foreign_at (connection_at b number) ≡ true = ap (λ (s : ServerState). is_foreign_at (connection_at s number)) (same barred some).0 ∙ barred.0 in
+    let clash : true ≡ false = sym here ∙ sym is ∙ passed in
+    absurd cc

@@ -2,12 +2,12 @@
 use Rattle.std.specs.Prelude.{ℕ, List, [], Option}
 use Rattle.std.specs.Io.KnownBytes.{Appends}
 use Rattle.mc_server.specs.ServerState.{ServerState}
-use Rattle.mc_pump.specs.Counts.{Counts}
+use Rattle.mc_pump.specs.Counts.{Counted, CountsWithin}
 use Rattle.mc_pump.specs.Stretches.{ConnectionStretch}
 
--- turns, what the writer took of their answers, and how the watch counts these answers
-pub record GathersTurns (number moment : ℕ) (old new : ServerState) (written written' : Option (List ℕ)) (count count' : ℕ) : Type 0 where
+-- turns, what the writer took of their answers, and what the watch counts of them
+pub record GathersTurns (number moment : ℕ) (old new : ServerState) (written written' : Option (List ℕ)) (count count' : Counted) : Type 0 where
   pub went : List ℕ
   pub stretch : ConnectionStretch number moment old new [] went
   pub appended : Appends written written' went
-  pub counted : Counts old.cache stretch.history count count'
+  pub counted : CountsWithin old.cache stretch.history count count'

@@ -1,4 +1,5 @@
 pub mod Stretches
+pub mod Work
 pub mod Counts
 pub mod Pumps
 pub mod Rounds

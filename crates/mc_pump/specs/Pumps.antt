@@ -1,11 +1,12 @@
 -- What a pump does between a server and the two sides of a stream.
-use Rattle.std.specs.Prelude.{◌≡◌, ℕ, ◌≤◌, ◌⊎◌, Bool, true, List, [], length, Option}
+use Rattle.std.specs.Prelude.{◌≡◌, ℕ, ◌≤◌, ◌<◌, ◌⊎◌, Bool, true, List, [], length, Option}
 use Rattle.mc_server.specs.ServerState.{ConnectionState, ServerState, connection_at, output_of}
-use Rattle.mc_server.specs.Turns.{waiting_of, is_closed_at}
+use Rattle.mc_server.specs.Turns.{waiting_of, is_closed_at, is_foreign_at}
 use Rattle.mc_stream.specs.Sides.{CarriesBy}
 use Rattle.mc_pump.specs.Counts.{Counts}
+use Rattle.mc_pump.specs.Work.{IsWithin}
 use Rattle.mc_pump.specs.Stretches.{ConnectionStretch}
-use Rattle.mc_pump.specs.declared.limits.TheConstants.{UNSENT_MARK}
+use Rattle.mc_pump.specs.declared.limits.TheConstants.{QUANTUM, UNSENT_MARK}
 use Rattle.mc_stream.specs.declared.outcomes.Pumped.{Pumped}
 use Rattle.mc_stream.specs.declared.outcomes.Pumped.TheVariants.{Blocked, Done}
 
@@ -20,6 +21,10 @@ pub record IsStuck (ended : Bool) (connection : Option ConnectionState) : Type 0
   pub taken : (waiting_of connection ≡ []) ⊎ (UNSENT_MARK ≤ length (output_of connection))
   pub goes_on : IsOver ended connection → ⊥
 
+-- a connection whose next line is one of an HTTP request, and of which less is unsent than the mark
+abbrev pub IsBarred : Option ConnectionState → Type 0
+IsBarred connection = (is_foreign_at connection ≡ true) × (length (output_of connection) < UNSENT_MARK)
+
 -- how a connection is left: done if it is over, blocked if it is stuck
 abbrev pub Leaves : Pumped → Bool → Option ConnectionState → Type 0
 Leaves Blocked ended connection = IsStuck ended connection
@@ -27,7 +32,7 @@ Leaves Done ended connection = IsOver ended connection
 Leaves other ended connection = Unit {0}
 
 -- What a pump of the connection of a number at a moment does, and how its watch counts the stores of just this stretch that are refused for
--- lack of memory.
+-- lack of memory. It serves each request of this stretch only while work is left of its quantum.
 pub record Pumps (number moment : ℕ) (pump : Pumped) (old new : ServerState) (unread unread' written written' : Option (List ℕ)) (ended ended' : Bool) (count count' : ℕ) : Type 0 where
   pub came : List ℕ
   pub went : List ℕ
@@ -35,3 +40,4 @@ pub record Pumps (number moment : ℕ) (pump : Pumped) (old new : ServerState) (
   pub carried : CarriesBy pump unread unread' written written' ended ended' came went
   pub left : Leaves pump ended' (connection_at new number)
   pub counted : Counts old.cache stretch.history count count'
+  pub within : IsWithin QUANTUM old.cache stretch.history

@@ -1,12 +1,13 @@
 //! The pump of a connection whose large values are written without a copy.
-ghost use Rattle.std.specs.Prelude.{◌≡◌, ◌<◌, ◌^◌, None, length, IfErr, IfOk, IfSome, IsSome};
-ghost use Rattle.mc_server.specs.ServerState.{connection_at};
+ghost use Rattle.std.specs.Prelude.{◌≡◌, ◌<◌, ◌^◌, Option, None, Err, length, IfErr, IfNone, IfOk, IfSome, IsSome};
+ghost use Rattle.mc_server.specs.ServerState.{ConnectionState, connection_at, output_of};
 ghost use Rattle.mc_stream.specs.Sides.{pump_of};
-ghost use Rattle.mc_pump.specs.Pumps.{Pumps};
+ghost use Rattle.mc_pump.specs.Counts.{counted_by};
+ghost use Rattle.mc_pump.specs.Pumps.{IsBarred, Pumps};
 ghost use Rattle.mc_pump.specs.Gathers.{GathersTurns};
-ghost use Rattle.mc_pump.specs.Rounds.{StopsAt};
+ghost use Rattle.mc_pump.specs.Rounds.{PumpsPart, StopsAt};
 
-use crate::limits::UNSENT_MARK;
+use crate::limits::{QUANTUM, UNSENT_MARK};
 use crate::rounds::{Stop, carry};
 use crate::watches::Watch;
 use mc_server::{Limited, Server, Turn};
@@ -36,12 +37,14 @@ pub fn pump_gathering<S: Store + Drop, R: Read, W: Gather>(
         (R.remaining reader.old) (R.remaining reader.new) (W.contents writer.old) (W.contents writer.new) ended.old ended.new
         watch.old.no_memory watch.new.no_memory }
     ensures not_open { connection_at server.old number ≡ None → (result ≡ Pumped.Failed) × (server.new ≡ server.old) }
+    ensures barred { IsBarred (connection_at server.old number) → (result ≡ Pumped.Failed) × (server.new ≡ server.old) }
     ensures not_counted { connection_at server.old number ≡ None → watch.new ≡ watch.old }
 {
     let Ok(_) = server.is_closed(number) else {
         return Pumped::Failed;
     };
-    for _ in 0..MAX_ROUNDS {
+    watch.left = QUANTUM;
+    for _round in 0..MAX_ROUNDS {
         if let Err(pump) = round(server, number, ended, reader, writer, piece, moment, watch) {
             return pump;
         }
@@ -49,8 +52,8 @@ pub fn pump_gathering<S: Store + Drop, R: Read, W: Gather>(
     Pumped::Again
 }
 
-/// Does one round: turns until a large answer is written, or until no request is pending or too much is unsent; in the latter cases then
-/// one write and one read. The error is how the pump stops.
+/// Does one round: turns until a large answer is written, or until no request is pending, too much is unsent or the quantum is spent; in
+/// the latter cases then one write and one read. The error is how the pump stops.
 fn round<S: Store + Drop, R: Read, W: Gather>(
     server: &mut Server<S>,
     number: u64,
@@ -64,9 +67,10 @@ fn round<S: Store + Drop, R: Read, W: Gather>(
     requires is_open { IsSome (connection_at server.old number) }
     requires piece { 0 < length piece.old }
     requires moment { moment < 2 ^ 63 }
-    ensures { Pumps number moment (pump_of result) server.old server.new (R.remaining reader.old)
+    ensures pumps { PumpsPart number moment (pump_of result) server.old server.new (R.remaining reader.old)
         (R.remaining reader.new) (W.contents writer.old) (W.contents writer.new) ended.old ended.new
-        watch.old.no_memory watch.new.no_memory }
+        (counted_by watch.old) (counted_by watch.new) }
+    ensures barred { IsBarred (connection_at server.old number) → 0 < watch.old.left → (result ≡ Err Pumped.Failed) × (server.new ≡ server.old) }
 {
     match gather_turns(server, number, moment, writer, watch) {
         Ok(Some(stop)) => carry(server, number, ended, reader, writer, piece, stop, watch),
@@ -75,10 +79,27 @@ fn round<S: Store + Drop, R: Read, W: Gather>(
     }
 }
 
-/// Takes turns of a connection until no request is pending, or until the unsent bytes reach the mark, and gives the writer their large
-/// answers. None says that the writer took some of one, after which no turn is taken. The error is [`Pumped::Failed`]: a turn was refused
-/// memory, or its answer may have more bytes than the watch allows.
-fn gather_turns<S: Store + Drop, W: Gather>(
+/// Returns why no turn may be taken, if so: the unsent bytes reach the mark, or no work is left.
+fn stop_before(unsent: usize, left: u64) -> Option<Stop>
+    ensures stops { IfSome result (λ stop. (connection : Option ConnectionState) → unsent ≡ length (output_of connection) → StopsAt stop connection) }
+    ensures none { unsent < UNSENT_MARK → 0 < left → result ≡ None }
+    ensures below { IfNone result (unsent < UNSENT_MARK) }
+    ensures some_left { IfNone result (0 < left) }
+    ensures fits { left < 2 ^ 64 }
+{
+    if unsent >= UNSENT_MARK {
+        return Some(Stop::Marked);
+    }
+    if left == 0 {
+        return Some(Stop::Spent);
+    }
+    None
+}
+
+/// Takes turns of a connection until no request is pending, until the unsent bytes reach the mark or until the quantum is spent, and gives the
+/// writer their large answers. None says that the writer took some of one, after which no turn is taken. The error is [`Pumped::Failed`]: a
+/// turn was refused memory, its answer may have more bytes than the watch allows, or the next line is foreign.
+pub fn gather_turns<S: Store + Drop, W: Gather>(
     server: &mut Server<S>,
     number: u64,
     moment: u64,
@@ -88,21 +109,31 @@ fn gather_turns<S: Store + Drop, W: Gather>(
     requires is_open { IsSome (connection_at server.old number) }
     requires moment { moment < 2 ^ 63 }
     ensures turns { GathersTurns number moment server.old server.new (W.contents writer.old) (W.contents writer.new)
-        watch.old.no_memory watch.new.no_memory }
+        (counted_by watch.old) (counted_by watch.new) }
     ensures stop { IfOk result (λ stopped. IfSome stopped (λ stop. StopsAt stop (connection_at server.new number))) }
     ensures failed { IfErr result (λ pump. pump ≡ Pumped.Failed) }
+    ensures barred { IsBarred (connection_at server.old number) → 0 < watch.old.left → (result ≡ Err Pumped.Failed) × (server.new ≡ server.old) }
 {
-    while server.output(number).len() < UNSENT_MARK {
+    loop {
         let unsent = server.output(number).len();
+        if let Some(stop) = stop_before(unsent, watch.left) {
+            return Ok(Some(stop));
+        }
+        if server.is_foreign(number) {
+            watch.foreign = true;
+            return Err(Pumped::Failed);
+        }
         let mut went = 0;
-        match server.turn_gathering(number, moment, watch.limit, writer, &mut went) {
+        let mut work = 0;
+        match server.turn_gathering(number, moment, watch.limit, writer, &mut went, &mut work) {
             Ok(Limited::Turned(Turn::Took)) => {
+                let output = server.output(number);
                 if went > 0 {
-                    watch.showed(went);
+                    watch.showed(work, unsent, went, output.len());
                     return Ok(None);
                 }
-                let (_, answer) = server.output(number).split_at(unsent);
-                watch.took(answer);
+                let (_, answer) = output.split_at(unsent);
+                watch.took(work, answer);
             }
             Ok(Limited::Turned(Turn::Idle)) => return Ok(Some(Stop::Idle)),
             Ok(Limited::Turned(Turn::Closing)) => return Ok(Some(Stop::Closing)),
@@ -113,5 +144,4 @@ fn gather_turns<S: Store + Drop, W: Gather>(
             Err(_) => return Err(Pumped::Failed),
         }
     }
-    Ok(Some(Stop::Marked))
 }

@@ -1,8 +1,9 @@
 //! The pump of a connection: bytes in, turns, bytes out.
 ghost use Rattle.std.specs.Prelude.{◌≡◌, ◌<◌, ◌^◌, None, length, IsSome};
 ghost use Rattle.mc_server.specs.ServerState.{connection_at};
-ghost use Rattle.mc_pump.specs.Pumps.{Pumps};
+ghost use Rattle.mc_pump.specs.Pumps.{IsBarred, Pumps};
 
+use crate::limits::QUANTUM;
 use crate::rounds::round;
 use crate::watches::Watch;
 use mc_server::Server;
@@ -18,9 +19,12 @@ use std::io::{Read, Write};
 /// unsent, no turn is taken and nothing is read. `ended` says whether the input has ended. The pump sets it when a read returns no byte,
 /// and then reads no more; a caller passes `false` at first.
 ///
+/// It takes no further turn once its turns have cost [`QUANTUM`](crate::QUANTUM) units of work. It then writes what is unsent in one call, and
+/// returns [`Pumped::Again`].
+///
 /// A request whose answer may have more bytes than the watch allows is not taken: the pump returns [`Pumped::Failed`], and has done nothing
-/// for it. The watch notes that. It counts the requests that are taken, those of them whose answer says that there is no memory to store
-/// something, and the bytes.
+/// for it. So it does at a line of an HTTP request ([`Server::is_foreign`]). The watch notes both. It counts the requests that are taken, those
+/// of them whose answer says that there is no memory to store something, and the bytes.
 pub fn pump<S: Store + Drop, R: Read, W: Write>(
     server: &mut Server<S>,
     number: u64,
@@ -37,12 +41,14 @@ pub fn pump<S: Store + Drop, R: Read, W: Write>(
         (R.remaining reader.old) (R.remaining reader.new) (W.contents writer.old) (W.contents writer.new) ended.old ended.new
         watch.old.no_memory watch.new.no_memory }
     ensures not_open { connection_at server.old number ≡ None → (result ≡ Pumped.Failed) × (server.new ≡ server.old) }
+    ensures barred { IsBarred (connection_at server.old number) → (result ≡ Pumped.Failed) × (server.new ≡ server.old) }
     ensures not_counted { connection_at server.old number ≡ None → watch.new ≡ watch.old }
 {
     let Ok(_) = server.is_closed(number) else {
         return Pumped::Failed;
     };
-    for _ in 0..MAX_ROUNDS {
+    watch.left = QUANTUM;
+    for _round in 0..MAX_ROUNDS {
         if let Err(pump) = round(server, number, ended, reader, writer, piece, moment, watch) {
             return pump;
         }

@@ -1,16 +1,18 @@
 //! A round: turns, a write, a read.
-ghost use Rattle.std.specs.Prelude.{◌≡◌, ◌<◌, ◌^◌, ◌==◌, ◌&&◌, ℕ, List, [], Option, false, length, IfNone, IfOk, IfSome, IsSome};
+ghost use Rattle.std.specs.Prelude.{Err, ◌≡◌, ◌<◌, ◌^◌, ◌==◌, ◌&&◌, ℕ, List, [], Option, false, length, IfNone, IfOk, IfSome, IsSome};
 ghost use Rattle.mc_server.specs.ServerState.{connection_at, output_of};
 ghost use Rattle.mc_server.specs.Turns.{is_closed_at, waiting_of};
 ghost use Rattle.mc_stream.specs.Sides.{pump_of};
-ghost use Rattle.mc_pump.specs.Pumps.{Pumps};
-ghost use Rattle.mc_pump.specs.Rounds.{Receives, Sends, StopsAt, TakesTurns, ends_by, moved_of, reads_by};
+ghost use Rattle.mc_pump.specs.Counts.{counted_by};
+ghost use Rattle.mc_pump.specs.Pumps.{IsBarred};
+ghost use Rattle.mc_pump.specs.Rounds.{PumpsPart, Receives, Sends, StopsAt, ends_by, is_spent, moved_of, reads_by};
 
+use crate::gathering::gather_turns;
 use crate::limits::UNSENT_MARK;
 use crate::watches::Watch;
-use mc_server::{Limited, Server, Turn};
+use mc_server::Server;
 use mc_store::Store;
-use mc_stream::{Pumped, read_once, read_result, write_once};
+use mc_stream::{NoWriter, Pumped, read_once, read_result, write_once};
 use std::io::{Read, Write};
 
 /// Why the turns of a round stopped.
@@ -22,9 +24,12 @@ pub enum Stop {
     Closing,
     /// The unsent bytes reach the mark.
     Marked,
+    /// The pump's turns have cost its quantum of work.
+    Spent,
 }
 
-/// Does one round: turns until no request is pending or too much is unsent, one write, one read. The error is how the pump stops.
+/// Does one round: turns until no request is pending, too much is unsent or the quantum is spent, one write, one read. The error is how the
+/// pump stops.
 pub fn round<S: Store + Drop, R: Read, W: Write>(
     server: &mut Server<S>,
     number: u64,
@@ -38,14 +43,16 @@ pub fn round<S: Store + Drop, R: Read, W: Write>(
     requires is_open { IsSome (connection_at server.old number) }
     requires piece { 0 < length piece.old }
     requires moment { moment < 2 ^ 63 }
-    ensures { Pumps number moment (pump_of result) server.old server.new (R.remaining reader.old)
+    ensures pumps { PumpsPart number moment (pump_of result) server.old server.new (R.remaining reader.old)
         (R.remaining reader.new) (W.contents writer.old) (W.contents writer.new) ended.old ended.new
-        watch.old.no_memory watch.new.no_memory }
+        (counted_by watch.old) (counted_by watch.new) }
+    ensures barred { IsBarred (connection_at server.old number) → 0 < watch.old.left → (result ≡ Err Pumped.Failed) × (server.new ≡ server.old) }
 {
-    let Ok(stop) = take_turns(server, number, moment, watch) else {
-        return Err(Pumped::Failed);
-    };
-    carry(server, number, ended, reader, writer, piece, stop, watch)
+    match gather_turns(server, number, moment, &mut NoWriter, watch) {
+        Ok(Some(stop)) => carry(server, number, ended, reader, writer, piece, stop, watch),
+        Ok(None) => Ok(()),
+        Err(pump) => Err(pump),
+    }
 }
 
 /// Does the rest of a round once its turns have stopped: one write, one read. The error is how the pump stops.
@@ -62,11 +69,14 @@ pub fn carry<S: Store + Drop, R: Read, W: Write>(
     requires is_open { IsSome (connection_at server.old number) }
     requires stop { StopsAt stop (connection_at server.old number) }
     requires piece { 0 < length piece.old }
-    ensures { (moment : ℕ) → Pumps number moment (pump_of result) server.old server.new (R.remaining reader.old)
+    ensures { (moment : ℕ) → PumpsPart number moment (pump_of result) server.old server.new (R.remaining reader.old)
         (R.remaining reader.new) (W.contents writer.old) (W.contents writer.new) ended.old ended.new
-        watch.old.no_memory watch.new.no_memory }
+        (counted_by watch.old) (counted_by watch.new) }
 {
     let moved = send(server, number, writer, watch)?;
+    if is_spent(stop) {
+        return Err(Pumped::Again);
+    }
     if is_over(server, number, stop, *ended) {
         return Err(Pumped::Done);
     }
@@ -94,8 +104,15 @@ fn ends(stop: Stop, ended: bool) -> bool
     match stop {
         Stop::Idle => ended,
         Stop::Closing => true,
-        Stop::Marked => false,
+        Stop::Marked | Stop::Spent => false,
     }
+}
+
+/// Returns whether the turns stopped because the quantum is spent.
+fn is_spent(stop: Stop) -> bool
+    ensures { result ≡ is_spent stop }
+{
+    matches!(stop, Stop::Spent)
 }
 
 /// Returns whether the input is read on, if the turns stopped so.
@@ -103,38 +120,6 @@ fn is_read(stop: Stop, ended: bool) -> bool
     ensures { result ≡ reads_by stop ended }
 {
     matches!(stop, Stop::Idle) && !ended
-}
-
-/// Takes turns of a connection until no request is pending, or until the unsent bytes reach the mark. The error is how the pump
-/// stops: a turn was refused memory, or its answer may have more bytes than the watch allows.
-fn take_turns<S: Store + Drop>(
-    server: &mut Server<S>,
-    number: u64,
-    moment: u64,
-    watch: &mut Watch,
-) -> Result<Stop, Pumped>
-    requires is_open { IsSome (connection_at server.old number) }
-    requires moment { moment < 2 ^ 63 }
-    ensures turns { TakesTurns number moment server.old server.new watch.old.no_memory watch.new.no_memory }
-    ensures stop { IfOk result (λ stop. StopsAt stop (connection_at server.new number)) }
-{
-    while server.output(number).len() < UNSENT_MARK {
-        let unsent = server.output(number).len();
-        match server.turn_within(number, moment, watch.limit) {
-            Ok(Limited::Turned(Turn::Took)) => {
-                let (_, answer) = server.output(number).split_at(unsent);
-                watch.took(answer);
-            }
-            Ok(Limited::Turned(Turn::Idle)) => return Ok(Stop::Idle),
-            Ok(Limited::Turned(Turn::Closing)) => return Ok(Stop::Closing),
-            Ok(Limited::Refused) => {
-                watch.refused = true;
-                return Err(Pumped::Failed);
-            }
-            Err(_) => return Err(Pumped::Failed),
-        }
-    }
-    Ok(Stop::Marked)
 }
 
 /// Writes what is unsent, in one call, drops what the writer took, and returns whether it took any.
@@ -146,7 +131,7 @@ fn send<S: Store + Drop, W: Write>(
 ) -> Result<bool, Pumped>
     requires { IsSome (connection_at server.old number) }
     ensures { (moment : ℕ) → Sends number moment result server.old server.new (W.contents writer.old) (W.contents writer.new)
-        watch.old.no_memory watch.new.no_memory }
+        (counted_by watch.old) (counted_by watch.new) }
 {
     let count = write_once(writer, server.output(number))?;
     if count == 0 {
@@ -173,9 +158,9 @@ fn read_or_block<S: Store + Drop, R: Read>(
     requires is_read { is_closed_at (connection_at server.old number) ≡ false }
     requires goes_on { ended.old ≡ false }
     requires piece { 0 < length piece.old }
-    ensures { (moment : ℕ) (written : Option (List ℕ)) → Pumps number moment (pump_of result) server.old server.new
+    ensures { (moment : ℕ) (written : Option (List ℕ)) → PumpsPart number moment (pump_of result) server.old server.new
         (R.remaining reader.old) (R.remaining reader.new) written written ended.old ended.new
-        watch.old.no_memory watch.new.no_memory }
+        (counted_by watch.old) (counted_by watch.new) }
 {
     let moved = receive(server, number, ended, reader, piece, watch)?;
     if moved || can_send {
@@ -198,7 +183,7 @@ fn receive<S: Store + Drop, R: Read>(
     requires goes_on { ended.old ≡ false }
     requires piece { 0 < length piece.old }
     ensures { (moment : ℕ) → Receives number moment result server.old server.new (R.remaining reader.old) (R.remaining reader.new) ended.new
-        watch.old.no_memory watch.new.no_memory }
+        (counted_by watch.old) (counted_by watch.new) }
 {
     match receive_apart(server, number, ended, reader, watch) {
         Some(moved) => moved,
@@ -218,7 +203,7 @@ fn receive_apart<S: Store + Drop, R: Read>(
     requires below { length (output_of (connection_at server.old number)) < UNSENT_MARK }
     requires goes_on { ended.old ≡ false }
     ensures receives { IfSome result (λ side. (moment : ℕ) → Receives number moment side server.old server.new
-        (R.remaining reader.old) (R.remaining reader.new) ended.new watch.old.no_memory watch.new.no_memory) }
+        (R.remaining reader.old) (R.remaining reader.new) ended.new (counted_by watch.old) (counted_by watch.new)) }
     ensures none { IfNone result (server.new ≡ server.old) }
     ensures unread { IfNone result (reader.new ≡ reader.old) }
     ensures going_on { IfNone result (ended.new ≡ ended.old) }
@@ -252,7 +237,7 @@ fn receive_piece<S: Store + Drop, R: Read>(
     requires goes_on { ended.old ≡ false }
     requires piece { 0 < length piece.old }
     ensures { (moment : ℕ) → Receives number moment result server.old server.new (R.remaining reader.old) (R.remaining reader.new) ended.new
-        watch.old.no_memory watch.new.no_memory }
+        (counted_by watch.old) (counted_by watch.new) }
 {
     let count = read_once(reader, piece, ended)?;
     if count == 0 {

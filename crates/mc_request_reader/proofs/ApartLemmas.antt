@@ -1,5 +1,5 @@
 -- A line and what has arrived after it, kept apart.
-use Rattle.std.proofs.Common.{◌≡◌, ◌∙◌, ℕ, suc, zero, ◌+◌, ◌-◌, ◌<◌, ◌≤◌, true, false, IsTrue, nat_le, inl, inr, List, [], ◌∷◌, ◌++◌, length, take, drop, Option, Some, None, is_some, refl, sym, ap, arith, eqb, nat_lt, length-append}
+use Rattle.std.proofs.Common.{◌≡◌, ◌∙◌, ℕ, suc, zero, ◌+◌, ◌-◌, ◌<◌, ◌≤◌, true, false, IsTrue, nat_le, inl, inr, List, [], ◌∷◌, ◌++◌, length, get_or, take, drop, Option, Some, None, is_some, refl, sym, ap, arith, eqb, nat_lt, length-append}
 use Rattle.std.specs.Prelude.{IfSome}
 use Rattle.mc_request_reader.specs.declared.peeks.TakenSet.{TakenSet}
 use Rattle.std.specs.Option.{option_map}
@@ -17,6 +17,7 @@ use Rattle.mc_request_reader.specs.declared.peeks.Front.{Front}
 use Rattle.mc_request_reader.specs.Steps.{StartsBy}
 use Rattle.mc_request_reader.specs.Reader.{ReaderState, fresh_reader, rest_of, KeepsRest, KeepsLittle}
 use Rattle.mc_request_reader.specs.Peeks.{HasNone, IsFirst, Shows, front_of, past}
+use Rattle.mc_request_reader.specs.Hosts.{begins_host, names_host}
 use Rattle.mc_request_reader.specs.ApartFields.{IsLine, Announces, front_at, joined, set_with}
 use Rattle.mc_request_reader.specs.ApartReaderFields.{state_by, IsIdleWhile}
 use Rattle.mc_request_reader.proofs.ReaderLemmas.{whole_is_first, none_yet, ready_by, shows_whole}
@@ -53,6 +54,19 @@ pub line_is : (line : List ℕ) → IsLine line → first_line line ≡ Whole (s
 line_is line h =
     let n : length line - 1 + 1 ≡ length line = omega (arith, h.some) in
     first_line-at line (length line - 1) h.ends ∙ ap (λ (k : ℕ). Whole (strip_carriage_return (take (length line - 1) line)) k) n
+
+other_letter : (rest : List ℕ) → begins_host (115 ∷ rest) ≡ false
+other_letter [] = refl
+other_letter (a ∷ []) = refl
+other_letter (a ∷ b ∷ []) = refl
+other_letter (a ∷ b ∷ c ∷ []) = refl
+other_letter (a ∷ b ∷ c ∷ d ∷ rest) = refl
+
+-- what begins with `s` names no host
+pub known_by : (piece line more : List ℕ) (n : ℕ) → get_or piece 0 0 ≡ 115 → 0 < n → n ≤ length piece → line ≡ take n piece → names_host (line ++ more) ≡ false
+known_by [] line more n first some size is = absurd (omega (arith, some, size))
+known_by (b ∷ bs) line more (suc n) first some size is = rw (is, first) (other_letter (take n bs ++ more))
+known_by (b ∷ bs) line more zero first some size is = absurd (omega (arith, some))
 
 drop_whole : (line after : List ℕ) → drop (length line) line ++ after ≡ after
 drop_whole [] after = refl

@@ -7,6 +7,7 @@ use Rattle.mc_request.specs.Requests.{next_request, ends}
 use Rattle.mc_request_reader.specs.declared.peeks.Front.{Front}
 use Rattle.mc_request_reader.specs.declared.peeks.TakenSet.{TakenSet}
 use Rattle.mc_request_reader.specs.declared.peeks.TheConstants.{REQUEST_LIMIT}
+use Rattle.mc_request_reader.specs.Hosts.{names_host}
 use Rattle.mc_request_reader.specs.Peeks.{set_of}
 use Rattle.mc_request_reader.specs.Reader.{ReaderState}
 
@@ -28,6 +29,11 @@ pub record Announces (line : List ℕ) (wanted : ℕ) : Type 0 where
   -- with them the first is whole, ends with them, and closes nothing
   pub whole : (more : List ℕ) → wanted ≤ length more
       → option_map front_at (next_request (line ++ more)) ≡ Some (record { size = length line + wanted; closes = false })
+
+-- a line that is kept apart with its data block: it is no header of an HTTP request
+pub record IsApart (line : List ℕ) (wanted : ℕ) : Type 0 where
+  pub announces : Announces line wanted
+  pub known : (more : List ℕ) → names_host (line ++ more) ≡ false
 
 -- bytes of which none was consumed, kept in two parts
 abbrev pub joined : List ℕ → List ℕ → ReaderState

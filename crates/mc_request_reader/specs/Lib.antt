@@ -1,3 +1,4 @@
+pub mod Hosts
 pub mod Reader
 pub mod Peeks
 pub mod Steps

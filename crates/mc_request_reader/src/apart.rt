@@ -1,6 +1,7 @@
 //! A line and its data block, kept apart from the other bytes, so that the block is copied once.
-ghost use Rattle.std.specs.Prelude.{◌≡◌, ◌<◌, ◌≤◌, ◌+◌, ◌↔◌, ℕ, List, [], ◌++◌, length, true, false, None, Some, IsTrue, IfOk, IfSome, IfNone, OnOk, OnErr};
+ghost use Rattle.std.specs.Prelude.{◌≡◌, ◌<◌, ◌≤◌, ◌+◌, ◌-◌, ◌^◌, ◌↔◌, min, ℕ, List, [], ◌++◌, length, true, false, None, Some, IsTrue, IfOk, IfSome, IfNone, OnOk, OnErr};
 ghost use Rattle.mc_request_reader.specs.ApartFields.{Announces};
+ghost use Rattle.mc_request_reader.specs.Hosts.{names_host};
 ghost use Rattle.mc_request_reader.specs.Reads.{Comes, ReadsBy};
 
 use crate::incoming::Incoming;
@@ -36,13 +37,13 @@ pub struct Apart {
 
 impl Model for Apart {
     ghost use Rattle.mc_request_reader.specs.Reader.{ReaderState};
-    ghost use Rattle.mc_request_reader.specs.ApartFields.{joined, Announces};
+    ghost use Rattle.mc_request_reader.specs.ApartFields.{joined, IsApart};
 
     ghost Value = { ReaderState };
 
     ghost view = { λ r. joined r.line.items r.block };
 
-    ghost invariant = { λ r. Announces r.line.items r.wanted };
+    ghost invariant = { λ r. IsApart r.line.items r.wanted };
 }
 
 impl Apart {
@@ -148,6 +149,22 @@ impl Apart {
         }
     }
 
+    /// Returns how many bytes are reserved for the line and for what arrives after it.
+    pub fn reserved(&self) -> usize
+        ensures { min self.now.held (2 ^ 64 - 1) ≤ result }
+    {
+        self.line.capacity().saturating_add(self.block.reserved())
+    }
+
+    /// Returns whether the bytes begin with `host:`. They begin with `set`. It reads no byte.
+    #[inline(always)]
+    pub fn names_host(&self) -> bool
+        ensures { result ≡ names_host self.now.unread }
+    {
+        let _ = &self.line;
+        false
+    }
+
     /// Returns whether it is known that nothing is whole until more bytes arrive. It reads no byte.
     pub fn needs_more(&self) -> bool
         ensures { result ≡ true → HasNone self.now self.now }
@@ -175,11 +192,12 @@ impl Apart {
 fn cut(piece: &[u8]) -> Option<(&[u8], &[u8], usize)>
     ensures joins { IfSome result (λ cut. piece.now ≡ cut.0.now ++ cut.1.now) }
     ensures announces { IfSome result (λ cut. Announces cut.0.now cut.2) }
+    ensures known { IfSome result (λ cut. (more : List ℕ) → names_host (cut.0.now ++ more) ≡ false) }
     ensures some { IfSome result (λ cut. 0 < length piece.now) }
 {
-    if !matches!(piece, [b's', b'e', b't', b' ', ..]) {
+    let [b's', b'e', b't', b' ', ..] = piece else {
         return None;
-    }
+    };
     match next_line(piece) {
         Line::Whole { content, taken } if may_be_large(content) => {
             let (line, rest) = piece.split_at(taken);

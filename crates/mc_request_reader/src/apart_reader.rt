@@ -1,11 +1,12 @@
 //! A reader for callers that keep large data blocks: it moves them out.
-ghost use Rattle.std.specs.Prelude.{◌≡◌, ◌<◌, ◌≤◌, ◌+◌, ◌↔◌, ℕ, List, [], ◌++◌, length, true, None, Some, IsTrue, IfSome, IfNone, OnOk, OnErr};
+ghost use Rattle.std.specs.Prelude.{◌≡◌, ◌<◌, ◌≤◌, ◌+◌, ◌-◌, ◌^◌, ◌↔◌, min, ℕ, List, [], ◌++◌, length, true, None, Some, IsTrue, IfSome, IfNone, OnOk, OnErr};
 ghost use Rattle.mc_request_reader.specs.Reader.{fresh_reader, KeepsRest, KeepsLittle};
 ghost use Rattle.mc_request_reader.specs.ApartFields.{begun_by};
 ghost use Rattle.mc_request_reader.specs.Peeks.{front_of, past};
 ghost use Rattle.mc_request_reader.specs.Reads.{Comes, ReadsBy};
 
 use crate::apart::{Apart, LEAST_PIECE};
+use crate::hosts::names_host;
 use crate::peeks::{Front, Look, Peek, TakenSet};
 use crate::reader::Reader;
 use mc_request::ReadError;
@@ -44,6 +45,7 @@ impl Model for ApartReader {
 
 impl ApartReader {
     ghost use Rattle.mc_request.specs.Requests.{ends};
+    ghost use Rattle.mc_request_reader.specs.Hosts.{names_host};
     ghost use Rattle.mc_request_reader.specs.Reader.{rest_of, kept_of};
     ghost use Rattle.mc_request_reader.specs.Peeks.{Looks, Peeks, IsFirst, IsWellFormedLook, IsWellFormedPeek, set_of};
 
@@ -162,6 +164,18 @@ impl ApartReader {
         self.reader.unread()
     }
 
+    /// Returns whether the bytes that have arrived and are not consumed begin with `host:` behind any spaces, with letters in any case
+    /// ([`names_host`]). Mostly it reads one byte.
+    #[inline(always)]
+    pub fn names_host(&self) -> bool
+        ensures { result ≡ names_host self.now.unread }
+    {
+        match &self.apart {
+            None => names_host(self.reader.unread()),
+            Some(apart) => apart.names_host(),
+        }
+    }
+
     /// Returns whether a whole request or fault has arrived, as [`Reader::ready`] does.
     pub fn ready(&self) -> bool
         ensures ready { IsTrue result ↔ (0 < length (rest_of self.now [])) }
@@ -190,6 +204,17 @@ impl ApartReader {
         match &self.apart {
             None => self.reader.consume(front),
             Some(_) => go_on(&mut self.apart, front, self.alloc, &mut self.reader),
+        }
+    }
+
+    /// Returns how many bytes of memory the reader has reserved: no fewer than it keeps, as far as 64 bits count.
+    pub fn reserved(&self) -> usize
+        ensures reserved { min self.now.held (2 ^ 64 - 1) ≤ result }
+        ensures little { KeepsLittle self.now }
+    {
+        match &self.apart {
+            None => self.reader.reserved(),
+            Some(apart) => apart.reserved().saturating_add(self.reader.reserved()),
         }
     }
 

@@ -43,7 +43,8 @@ impl Incoming {
     pub fn begin(alloc: Global, first: &[u8], wanted: usize) -> Option<Incoming>
         ensures { IfSome result (λ incoming. incoming ≡ first.now) }
     {
-        let Ok(mut bytes) = Vec::with_capacity(alloc, room_for(first.len(), wanted)) else {
+        let Ok(mut bytes) = Vec::with_capacity(alloc, room_for(first.len(), wanted, ROOM_FOR))
+        else {
             return None;
         };
         bytes.extend_from_slice(first).unwrap();
@@ -58,6 +59,13 @@ impl Incoming {
         ensures { result ≡ length self.now }
     {
         self.come
+    }
+
+    /// Returns how many bytes are reserved for those that have arrived and for more.
+    pub fn reserved(&self) -> usize
+        ensures { length self.now ≤ result }
+    {
+        self.bytes.capacity()
     }
 
     /// Returns the bytes that have arrived.
@@ -75,7 +83,7 @@ impl Incoming {
         ensures err { OnErr result (self.new ≡ self.old) }
     {
         self.bytes.truncate(self.come);
-        make_room(&mut self.bytes, piece.len(), wanted);
+        make_room(&mut self.bytes, piece.len(), wanted, ROOM_FOR);
         self.bytes.extend_from_slice(piece)?;
         self.come = self.bytes.len();
         Ok(())
@@ -112,21 +120,22 @@ impl Incoming {
     }
 }
 
-/// Returns the number of bytes to reserve memory for, if `come` have arrived and `wanted` are wanted.
-fn room_for(come: usize, wanted: usize) -> usize
+/// Returns the number of bytes to reserve memory for, if `come` have arrived and `wanted` are wanted: `times` those that have arrived, and no
+/// more than are wanted.
+fn room_for(come: usize, wanted: usize, times: usize) -> usize
     ensures { come ≤ result }
 {
-    wanted.min(come.saturating_mul(ROOM_FOR)).max(come)
+    wanted.min(come.saturating_mul(times)).max(come)
 }
 
-/// Makes room for `more` further bytes, if with them there are no more than `wanted`. If there is too little memory, the room
-/// stays as it was.
-fn make_room(bytes: &mut Vec<u8>, more: usize, wanted: usize)
+/// Makes room for `more` further bytes, if with them there are no more than `wanted`: for `times` as many as there are then, and for no more
+/// than are wanted. If there is too little memory, the room stays as it was.
+pub fn make_room(bytes: &mut Vec<u8>, more: usize, wanted: usize, times: usize)
     ensures { bytes.new.items ≡ bytes.old.items }
 {
     let come = bytes.len().saturating_add(more);
     if come > bytes.capacity() && come <= wanted {
-        let _ = bytes.reserve_exact(room_for(come, wanted).saturating_sub(bytes.len()));
+        let _ = bytes.reserve_exact(room_for(come, wanted, times).saturating_sub(bytes.len()));
     }
 }
 
@@ -153,7 +162,7 @@ fn widen(bytes: &mut Vec<u8>, come: usize, room: usize, wanted: usize) -> bool
     if end <= bytes.len() {
         return true;
     }
-    make_room(bytes, end - bytes.len(), wanted);
+    make_room(bytes, end - bytes.len(), wanted, ROOM_FOR);
     bytes.resize(end, 0).is_ok()
 }
 

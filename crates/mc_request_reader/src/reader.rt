@@ -175,6 +175,14 @@ impl Reader {
         self.unread.shrink_if_idle(kept);
     }
 
+    /// Returns how many bytes of memory the reader has reserved: no fewer than it keeps.
+    pub fn reserved(&self) -> usize
+        ensures reserved { self.now.held ≤ result }
+        ensures little { KeepsLittle self.now }
+    {
+        self.unread.reserved()
+    }
+
     /// Returns how many bytes the reader keeps: those that are not consumed, and the consumed ones that are not dropped yet,
     /// which are never more. None are kept after the end, or while a refused block arrives. If nothing is whole, they are
     /// fewer than [`REQUEST_LIMIT`](crate::REQUEST_LIMIT).

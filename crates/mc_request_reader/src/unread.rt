@@ -1,6 +1,7 @@
 //! The bytes that have arrived and are not consumed.
 ghost use Rattle.std.specs.Prelude.{◌≡◌, ◌<◌, ◌≤◌, ◌+◌, ◌↔◌, ℕ, List, [], ◌++◌, length, drop, vec_len, true, false, None, Some, is_some, IsTrue, OnOk, OnErr};
 
+use crate::incoming::make_room;
 use crate::peeks::{Front, Look, Peek, REQUEST_LIMIT};
 use crate::searched::Searched;
 use crate::steps::{Arrival, arrival_of, first_asked, first_look, is_whole};
@@ -11,6 +12,10 @@ use std::marker::Model;
 
 /// The most bytes of a line that each `peek` after a `consume` reads again, until more bytes arrive.
 pub const SHORT_LINE: usize = 512;
+
+/// While a storage line waits for its data block, memory is reserved for this many times the bytes that have arrived, and for no more than
+/// the line announced.
+const ROOM_FOR: usize = 2;
 
 /// The bytes that have arrived and are not consumed, as a reader keeps them, with what is known of them.
 #[derive(Drop)]
@@ -102,7 +107,15 @@ impl Unread {
             return Ok(());
         }
         match self.dropping {
-            None => self.buffer.extend_from_slice(piece)?,
+            None => {
+                let announced = if self.sure {
+                    self.start + self.wanted
+                } else {
+                    0
+                };
+                make_room(&mut self.buffer, piece.len(), announced, ROOM_FOR);
+                self.buffer.extend_from_slice(piece)?;
+            }
             Some((fault, left)) => {
                 let (dropped, kept) = piece.split_at(left.min(piece.len()));
                 self.buffer.extend_from_slice(kept)?;
@@ -327,6 +340,13 @@ impl Unread {
         ensures { self.new ≡ self.old }
     {
         shrink_if_idle(&mut self.buffer, kept);
+    }
+
+    /// Returns how many bytes are reserved for those that are kept and for more.
+    pub fn reserved(&self) -> usize
+        ensures { self.now.held ≤ result }
+    {
+        self.buffer.capacity()
     }
 
     /// Returns how many bytes are kept.

@@ -20,10 +20,12 @@ ghost use Rattle.mc_cache.specs.Refusals.{HasKey, is_refusal};
 ghost use Rattle.mc_cache.specs.Step.{step_of};
 ghost use Rattle.mc_server.specs.Served.{IsServed};
 ghost use Rattle.mc_server.specs.Rooms.{keys_room, room_of, taken_bound, meta_value_room};
+ghost use Rattle.mc_server.specs.Work.{work_of, update_work, meta_work};
 
 use crate::ahead::Ahead;
 use crate::limits::AnswerLimit;
 use crate::turns::ServerError;
+use crate::work::{work_of_meta, work_of_update};
 use mc_cache::Cache;
 use mc_reply::{
     KEY_ROOM, LINE_ROOM, META_ROOM, Reply, write_end, write_fault, write_key, write_line,
@@ -172,7 +174,7 @@ fn room_for_keys<S: Store + Drop>(beside: usize, keys: WordIter<'_>, cache: &Cac
     room
 }
 
-/// Serves a request at a moment, if its answer is within a limit, and returns whether it is.
+/// Serves a request at a moment, if its answer is within a limit, and returns whether it is. Then `work` is set to the work that it cost.
 ///
 /// It takes the memory that it may need before it changes anything: room for the answer, and the block of a value that is stored under a
 /// stored key. If the answer is not within the limit, or at an error, nothing has changed.
@@ -184,12 +186,14 @@ pub fn serve_within<S: Store + Drop>(
     limit: AnswerLimit,
     ahead: &mut Ahead,
     output: &mut Vec<u8>,
+    work: &mut u64,
 ) -> Result<bool, ServerError>
     requires moment { moment < 2 ^ 63 }
     requires well_formed { is_well_formed (asked_of asked.now) ≡ true }
     ensures served { result ≡ Ok true → (number : ℕ)
         → IsServed number cache.old (asked_of asked.now) moment cache.new output.old.items output.new.items }
     ensures len { OnOk result (vec_len output.new ≤ vec_len output.old + room_of (asked_of asked.now) cache.old) }
+    ensures work { result ≡ Ok true → work.new ≡ min (work_of (asked_of asked.now) cache.old) (2 ^ 64 - 1) }
     ensures refused { (result ≡ Ok false) ↔ (limit.bytes < min (taken_bound (asked_of asked.now) cache.old) (2 ^ 64 - 1)) }
     ensures cache_unchanged { result ≡ Ok false → cache.new ≡ cache.old }
     ensures output_unchanged { result ≡ Ok false → output.new.items ≡ output.old.items }
@@ -202,11 +206,11 @@ pub fn serve_within<S: Store + Drop>(
         return Ok(false);
     }
     output.reserve(room)?;
-    serve(asked, cache, moment, ahead, output)?;
+    *work = serve(asked, cache, moment, ahead, output)?;
     Ok(true)
 }
 
-/// Serves a request at a moment, given hints of the next keys' slots. The cache may take memory to store an item. Beside
+/// Serves a request at a moment, given hints of the next keys' slots, and returns the work that it cost. The cache may take memory to store an item. Beside
 /// that, it takes memory only for the block of a value that is stored under a stored key, and if there is none nothing has changed.
 pub fn serve<S: Store + Drop>(
     asked: &RequestRef<'_>,
@@ -214,45 +218,52 @@ pub fn serve<S: Store + Drop>(
     moment: u64,
     ahead: &mut Ahead,
     output: &mut Vec<u8>,
-) -> Result<(), AllocError>
+) -> Result<u64, AllocError>
     requires moment { moment < 2 ^ 63 }
     requires well_formed { is_well_formed (asked_of asked.now) ≡ true }
     requires room { vec_len output.old + room_of (asked_of asked.now) cache.old ≤ vec_capacity output.old }
     ensures served { OnOk result ((number : ℕ)
         → IsServed number cache.old (asked_of asked.now) moment cache.new output.old.items output.new.items) }
     ensures len { OnOk result (vec_len output.new ≤ vec_len output.old + room_of (asked_of asked.now) cache.old) }
+    ensures work { IfOk result (λ work. work ≡ min (work_of (asked_of asked.now) cache.old) (2 ^ 64 - 1)) }
     ensures cache_kept { OnErr result (cache.new ≡ cache.old) }
     ensures output_kept { OnErr result (output.new.items ≡ output.old.items) }
 {
     let hides = asked.hides();
-    match asked {
+    Ok(match asked {
         RequestRef::Get {
             keys,
             exptime,
             with_cas,
         } => {
             let keys = keys.again();
-            serve_keys(keys, *exptime, *with_cas, cache, moment, ahead, output);
+            serve_keys(keys, *exptime, *with_cas, cache, moment, ahead, output)
         }
         RequestRef::Update { update, .. } => {
-            serve_update(update, hides, cache, ahead.next(), moment, output)?;
+            serve_update(update, hides, cache, ahead.next(), moment, output)?
         }
         RequestRef::Meta { command, form } => {
             let hint = ahead.next_for(form.coded);
-            serve_meta(command, form, hides, cache, hint, moment, output)?;
+            serve_meta(command, form, hides, cache, hint, moment, output)?
         }
-        RequestRef::MetaNoop => write_noop(output).unwrap(),
-        RequestRef::Version => write_version(output).unwrap(),
-        RequestRef::Quit => {}
+        RequestRef::MetaNoop => {
+            write_noop(output).unwrap();
+            1
+        }
+        RequestRef::Version => {
+            write_version(output).unwrap();
+            1
+        }
+        RequestRef::Quit => 1,
         RequestRef::Faulty(fault) => {
             ahead.refuse();
             write_fault(*fault, output).unwrap();
+            1
         }
-    }
-    Ok(())
+    })
 }
 
-/// Serves a command that may change what is stored, given a hint of its key's slot.
+/// Serves a command that may change what is stored, given a hint of its key's slot, and returns the work that it cost.
 fn serve_update<S: Store + Drop>(
     update: &Update<&[u8], &[u8]>,
     hides: Hides,
@@ -260,7 +271,7 @@ fn serve_update<S: Store + Drop>(
     hint: Hint,
     moment: u64,
     output: &mut Vec<u8>,
-) -> Result<(), AllocError>
+) -> Result<u64, AllocError>
     requires moment { moment < 2 ^ 63 }
     requires key { HasKey (update_seen update.now) }
     requires room { vec_len output.old + LINE_ROOM ≤ vec_capacity output.old }
@@ -268,14 +279,16 @@ fn serve_update<S: Store + Drop>(
         → hides_of (AnUpdate (update_seen update.now) noreply) ≡ hides
         → IsServed number cache.old (Whole (AnUpdate (update_seen update.now) noreply)) moment cache.new output.old.items output.new.items) }
     ensures len { OnOk result (vec_len output.new ≤ vec_len output.old + LINE_ROOM) }
+    ensures work { IfOk result (λ work. work ≡ update_work (update_seen update.now) cache.old) }
     ensures cache_kept { OnErr result (cache.new ≡ cache.old) }
     ensures output_kept { OnErr result (output.new.items ≡ output.old.items) }
 {
+    let work = work_of_update(update, cache);
     let reply = cache.update(update, hint, moment)?;
     if !reply.is_hidden(hides) {
         write_line(&reply.with(b"".as_slice()), output).unwrap();
     }
-    Ok(())
+    Ok(work)
 }
 
 /// Serves a `set` whose key and block are owned: no byte of the block is copied. There is room for its line, so it cannot fail: if the
@@ -315,7 +328,8 @@ fn hides_by(noreply: bool) -> Hides
     }
 }
 
-/// Serves a meta command by the word of its key, given a hint of its slot. The value that it shows is read from the front of the cache.
+/// Serves a meta command by the word of its key, given a hint of its slot, and returns the work that it cost. The value that it shows is
+/// read from the front of the cache.
 fn serve_meta<S: Store + Drop>(
     command: &MetaCommand<&[u8], &[u8]>,
     form: &MetaForm<WordIter<'_>>,
@@ -324,7 +338,7 @@ fn serve_meta<S: Store + Drop>(
     hint: Hint,
     moment: u64,
     output: &mut Vec<u8>,
-) -> Result<(), AllocError>
+) -> Result<u64, AllocError>
     requires moment { moment < 2 ^ 63 }
     requires well_formed { is_good_request (Meta (meta_said form.now.coded command.now) form.now) ≡ true }
     requires room { vec_len output.old + (META_ROOM + meta_value_room (meta_said form.now.coded command.now) cache.old) ≤ vec_capacity output.old }
@@ -333,9 +347,11 @@ fn serve_meta<S: Store + Drop>(
         → IsServed number cache.old (Whole (Meta (meta_said form.now.coded command.now) form.now)) moment cache.new output.old.items output.new.items) }
     ensures len { OnOk result (vec_len output.new
         ≤ vec_len output.old + (META_ROOM + meta_value_room (meta_said form.now.coded command.now) cache.old)) }
+    ensures work { IfOk result (λ work. work ≡ meta_work (meta_said form.now.coded command.now) cache.old) }
     ensures cache_kept { OnErr result (cache.new ≡ cache.old) }
     ensures output_kept { OnErr result (output.new.items ≡ output.old.items) }
 {
+    let work = work_of_meta(command, form.coded, cache);
     let reply = meta_reply(command, form.coded, cache, hint, moment)?;
     if !reply.is_hidden(hides) {
         write_meta(
@@ -346,7 +362,7 @@ fn serve_meta<S: Store + Drop>(
         )
         .unwrap();
     }
-    Ok(())
+    Ok(work)
 }
 
 /// Returns the cache's reply to a meta command by the word of its key, given a hint of its slot. The value that it shows is first.
@@ -379,7 +395,7 @@ fn meta_reply<S: Store + Drop>(
     }
 }
 
-/// Serves a retrieval command, key by key: each value is copied once, from the cache into the output.
+/// Serves a retrieval command, key by key: each value is copied once, from the cache into the output. It returns the work that it cost.
 pub fn serve_keys<S: Store + Drop>(
     keys: WordIter<'_>,
     exptime: Option<i64>,
@@ -388,19 +404,23 @@ pub fn serve_keys<S: Store + Drop>(
     moment: u64,
     ahead: &mut Ahead,
     output: &mut Vec<u8>,
-)
+) -> u64
     requires moment { moment < 2 ^ 63 }
     requires plain { list_all is_plain_key keys ≡ true }
     requires room { vec_len output.old + (LINE_ROOM + keys_room KEY_ROOM keys cache.old) ≤ vec_capacity output.old }
     ensures served { (number : ℕ)
         → IsServed number cache.old (Whole (Get keys.entry exptime with_cas)) moment cache.new output.old.items output.new.items }
     ensures len { vec_len output.new ≤ vec_len output.old + (LINE_ROOM + keys_room KEY_ROOM keys.entry cache.old) }
+    ensures work { result ≡ min (1 + length keys.entry) (2 ^ 64 - 1) }
 {
+    let mut work: u64 = 1;
     for key in keys {
         let hint = ahead.next();
         serve_key(key, hint, exptime, with_cas, cache, moment, output);
+        work = work.saturating_add(1);
     }
     write_end(output).unwrap();
+    work
 }
 
 /// Serves a key of a retrieval command, given a hint of its slot. The value that it shows is read from the front of the cache.

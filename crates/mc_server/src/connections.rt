@@ -6,6 +6,7 @@ use crate::answering::{COMMAND_BOUND, bound_for, room_for_get, serve_set, serve_
 use crate::gathering::serve_get;
 use crate::limits::AnswerLimit;
 use crate::turns::{Limited, ServerError, Turn};
+use crate::work::work_of_bytes;
 use mc_cache::Cache;
 use mc_reply::LINE_ROOM;
 use mc_request::{CommandLine, command_line};
@@ -41,13 +42,16 @@ impl Model for Connection {
 }
 
 impl Connection {
+    ghost use Rattle.mc_request_reader.specs.Hosts.{names_host};
     ghost use Rattle.mc_request_reader.specs.Reader.{rest_of, kept_of, KeepsLittle};
     ghost use Rattle.mc_request_reader.specs.Reads.{ReadsBy};
     ghost use Rattle.mc_server.specs.Gathers.{IsGatheredTurn};
     ghost use Rattle.mc_server.specs.Rooms.{bound_of};
+    ghost use Rattle.mc_server.specs.Work.{work_of_first};
     ghost use Rattle.mc_server.specs.ServerState.{fresh_connection};
     ghost use Rattle.mc_server.specs.Turns.{IsFed, IsLimitedTurn, IsTurn};
-    ghost use Rattle.mc_server.specs.declared.turns.Limited.TheVariants.{Refused};
+    ghost use Rattle.mc_server.specs.declared.turns.Turn.TheVariants.{Took};
+    ghost use Rattle.mc_server.specs.declared.turns.Limited.TheVariants.{Turned, Refused};
 
     /// Makes a connection to which nothing has arrived.
     pub fn new(alloc: Global) -> Self
@@ -99,6 +103,14 @@ impl Connection {
         self.reader.is_closed()
     }
 
+    /// Returns whether what has arrived, and is not taken, begins with a header of an HTTP request.
+    #[inline]
+    pub fn is_foreign(&self) -> bool
+        ensures { result ≡ names_host self.now.reader.unread }
+    {
+        self.reader.names_host()
+    }
+
     /// Returns a bound on what the next turn adds to the output; [`usize::MAX`] if it is that or more.
     pub fn bound<S: Store + Drop>(&self, cache: &Cache<S>) -> usize
         ensures { result ≡ min (bound_of (rest_of self.now.reader []) cache.now) (2 ^ 64 - 1) }
@@ -128,7 +140,8 @@ impl Connection {
         ensures err { OnErr result (self.new ≡ self.old) }
         ensures cache_kept { OnErr result (cache.new ≡ cache.old) }
     {
-        match self.turn_within(cache, moment, AnswerLimit::none(), ahead)? {
+        let mut work = 0;
+        match self.turn_within(cache, moment, AnswerLimit::none(), ahead, &mut work)? {
             Limited::Turned(turn) => Ok(turn),
             Limited::Refused => unreachable!(),
         }
@@ -144,6 +157,7 @@ impl Connection {
         moment: u64,
         limit: AnswerLimit,
         ahead: &mut Ahead,
+        work: &mut u64,
     ) -> Result<Limited, ServerError>
         requires { moment < 2 ^ 63 }
         ensures turn { (number : ℕ)
@@ -151,6 +165,8 @@ impl Connection {
         ensures bounded { OnOk result (length self.new.output
             ≤ length self.old.output + bound_of (rest_of self.old.reader []) cache.old) }
         ensures little { OnOk result (KeepsLittle self.new.reader) }
+        ensures work { result ≡ Ok (Turned Took) → work.new
+            ≡ min (work_of_first (rest_of self.old.reader []) cache.old) (2 ^ 64 - 1) }
         ensures refused { (result ≡ Ok Refused)
             ↔ (limit.bytes < min (bound_of (rest_of self.old.reader []) cache.old) (2 ^ 64 - 1)) }
         ensures unchanged { result ≡ Ok Refused → self.new ≡ self.old }
@@ -161,11 +177,12 @@ impl Connection {
         ensures cache_kept { OnErr result (cache.new ≡ cache.old) }
     {
         let mut went = 0;
-        self.turn_gathering(cache, moment, limit, ahead, &mut NoWriter, &mut went)
+        self.turn_gathering(cache, moment, limit, ahead, &mut NoWriter, &mut went, work)
     }
 
     /// Takes a [turn](Self::turn_within) whose answer may be written at once. If it shows one large value, the writer is given in one call what is
     /// unsent, the answer, and the value without a copy. `went` is set to the number of bytes that the writer took. The others stay in the output.
+    /// If a request or fault was taken, `work` is set to the work that it cost.
     pub fn turn_gathering<S: Store + Drop, W: Gather>(
         &mut self,
         cache: &mut Cache<S>,
@@ -174,6 +191,7 @@ impl Connection {
         ahead: &mut Ahead,
         writer: &mut W,
         went: &mut usize,
+        work: &mut u64,
     ) -> Result<Limited, ServerError>
         requires { moment < 2 ^ 63 }
         ensures turn { (number : ℕ)
@@ -182,6 +200,8 @@ impl Connection {
         ensures bounded { OnOk result (length self.new.output
             ≤ length self.old.output + bound_of (rest_of self.old.reader []) cache.old) }
         ensures little { OnOk result (KeepsLittle self.new.reader) }
+        ensures work { result ≡ Ok (Turned Took) → work.new
+            ≡ min (work_of_first (rest_of self.old.reader []) cache.old) (2 ^ 64 - 1) }
         ensures refused { (result ≡ Ok Refused)
             ↔ (limit.bytes < min (bound_of (rest_of self.old.reader []) cache.old) (2 ^ 64 - 1)) }
         ensures unchanged { result ≡ Ok Refused → self.new ≡ self.old }
@@ -222,11 +242,12 @@ impl Connection {
                 );
                 self.sent = put.sent;
                 *went = put.went;
+                *work = put.work;
                 self.looked = ahead.past(self.looked, front.size);
                 self.reader.consume(front);
                 Ok(Limited::Turned(Turn::Took))
             }
-            Look::Line(_) | Look::Other => self.turn_other(cache, moment, limit, ahead),
+            Look::Line(_) | Look::Other => self.turn_other(cache, moment, limit, ahead, work),
         }
     }
 
@@ -237,6 +258,7 @@ impl Connection {
         moment: u64,
         limit: AnswerLimit,
         ahead: &mut Ahead,
+        work: &mut u64,
     ) -> Result<Limited, ServerError>
         requires { moment < 2 ^ 63 }
         ensures turn { (number : ℕ)
@@ -244,6 +266,8 @@ impl Connection {
         ensures bounded { OnOk result (length self.new.output
             ≤ length self.old.output + bound_of (rest_of self.old.reader []) cache.old) }
         ensures little { OnOk result (KeepsLittle self.new.reader) }
+        ensures work { result ≡ Ok (Turned Took) → work.new
+            ≡ min (work_of_first (rest_of self.old.reader []) cache.old) (2 ^ 64 - 1) }
         ensures refused { (result ≡ Ok Refused)
             ↔ (limit.bytes < min (bound_of (rest_of self.old.reader []) cache.old) (2 ^ 64 - 1)) }
         ensures unchanged { result ≡ Ok Refused → self.new ≡ self.old }
@@ -263,7 +287,7 @@ impl Connection {
             };
             let text = self.reader.unread();
             self.looked = ahead.look_past(self.looked, asked, front.size, text, cache);
-            if !serve_within(asked, cache, moment, limit, ahead, &mut self.output)? {
+            if !serve_within(asked, cache, moment, limit, ahead, &mut self.output, work)? {
                 return Ok(Limited::Refused);
             }
             self.looked = ahead.past(self.looked, front.size);
@@ -271,11 +295,11 @@ impl Connection {
             return Ok(Limited::Turned(Turn::Took));
         }
         if self.reader.has_set()
-            && let Some(turn) = self.turn_set(cache, moment, limit)
+            && let Some(turn) = self.turn_set(cache, moment, limit, work)
         {
             return Ok(Limited::Turned(turn));
         }
-        self.turn_peeked(cache, moment, limit, ahead)
+        self.turn_peeked(cache, moment, limit, ahead, work)
     }
 
     /// Takes a turn of a large `set` that the reader moves out: no byte of its data block is copied. It returns none if there is no such
@@ -286,6 +310,7 @@ impl Connection {
         cache: &mut Cache<S>,
         moment: u64,
         limit: AnswerLimit,
+        work: &mut u64,
     ) -> Option<Turn>
         requires { moment < 2 ^ 63 }
         ensures turn { IfSome result (λ turn. (number : ℕ)
@@ -293,6 +318,7 @@ impl Connection {
         ensures bounded { OnSome result (length self.new.output
             ≤ length self.old.output + bound_of (rest_of self.old.reader []) cache.old) }
         ensures little { OnSome result (KeepsLittle self.new.reader) }
+        ensures work { OnSome result (work.new ≡ min (work_of_first (rest_of self.old.reader []) cache.old) (2 ^ 64 - 1)) }
         ensures within { OnSome result (bound_of (rest_of self.old.reader []) cache.old ≤ limit.bytes) }
         ensures unchanged { IfNone result (self.new ≡ self.old) }
         ensures cache_unchanged { IfNone result (cache.new ≡ cache.old) }
@@ -304,6 +330,7 @@ impl Connection {
             return None;
         };
         let set = self.reader.take_set()?;
+        *work = work_of_bytes(set.block.len());
         serve_set(set, cache, moment, &mut self.output);
         Some(Turn::Took)
     }
@@ -315,6 +342,7 @@ impl Connection {
         moment: u64,
         limit: AnswerLimit,
         ahead: &mut Ahead,
+        work: &mut u64,
     ) -> Result<Limited, ServerError>
         requires { moment < 2 ^ 63 }
         ensures turn { (number : ℕ)
@@ -322,6 +350,8 @@ impl Connection {
         ensures bounded { OnOk result (length self.new.output
             ≤ length self.old.output + bound_of (rest_of self.old.reader []) cache.old) }
         ensures little { OnOk result (KeepsLittle self.new.reader) }
+        ensures work { result ≡ Ok (Turned Took) → work.new
+            ≡ min (work_of_first (rest_of self.old.reader []) cache.old) (2 ^ 64 - 1) }
         ensures refused { (result ≡ Ok Refused)
             ↔ (limit.bytes < min (bound_of (rest_of self.old.reader []) cache.old) (2 ^ 64 - 1)) }
         ensures unchanged { result ≡ Ok Refused → self.new ≡ self.old }
@@ -337,7 +367,7 @@ impl Connection {
             Peek::First(asked, front) => {
                 let text = self.reader.unread();
                 self.looked = ahead.look_past(self.looked, asked, front.size, text, cache);
-                if !serve_within(asked, cache, moment, limit, ahead, &mut self.output)? {
+                if !serve_within(asked, cache, moment, limit, ahead, &mut self.output, work)? {
                     return Ok(Limited::Refused);
                 }
                 *front
@@ -362,6 +392,17 @@ impl Connection {
         ensures { self.new ≡ record self.old { output = drop count self.old.output } }
     {
         self.sent = consume_front(&mut self.output, self.sent + count);
+    }
+
+    /// Returns how many bytes of memory are reserved for what is kept of the input, and for the output: no fewer than either has, as far as 64
+    /// bits count.
+    pub fn reserved(&self) -> usize
+        ensures input { min self.now.reader.held (2 ^ 64 - 1) ≤ result }
+        ensures output { length self.now.output ≤ result }
+    {
+        self.reader
+            .reserved()
+            .saturating_add(self.output.capacity())
     }
 
     /// Frees the memory of each buffer that holds no byte, if more than `kept` bytes are reserved for it.

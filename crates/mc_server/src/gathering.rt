@@ -1,5 +1,5 @@
 //! Serving a retrieval: a large value is written without a copy.
-ghost use Rattle.std.specs.Prelude.{◌≡◌, ◌+◌, ◌*◌, ◌-◌, ◌≤◌, ◌<◌, ◌^◌, ◌++◌, true, false, ℕ, List, [], ◌∷◌, length, drop, codes, None, Ok, vec_len, vec_capacity, IfSome};
+ghost use Rattle.std.specs.Prelude.{◌≡◌, ◌+◌, ◌*◌, ◌-◌, ◌≤◌, ◌<◌, ◌^◌, ◌++◌, true, false, ℕ, List, [], ◌∷◌, length, min, drop, codes, None, Ok, vec_len, vec_capacity, IfSome};
 ghost use Rattle.std.specs.List.{list_all};
 ghost use Rattle.mc_text.specs.Keys.{is_plain_key};
 ghost use Rattle.mc_request.specs.declared.parts.Request.TheVariants.{Get};
@@ -12,6 +12,7 @@ ghost use Rattle.mc_server.specs.Rooms.{keys_room};
 
 use crate::ahead::Ahead;
 use crate::answering::serve_keys;
+use crate::work::LONE_WORK;
 use mc_cache::Cache;
 use mc_reply::{KEY_ROOM, LINE_ROOM, write_end, write_head};
 use mc_store::{Hint, Store};
@@ -31,6 +32,8 @@ pub struct Put {
     pub sent: usize,
     /// The number of bytes that the writer took.
     pub went: usize,
+    /// The work that the retrieval cost.
+    pub work: u64,
 }
 
 /// Serves a `get` or `gets` of these keys, for whose answer there is this room in an output, of which the first `sent` bytes were
@@ -57,6 +60,7 @@ pub fn serve_get<S: Store + Drop, W: Gather>(
         (Whole (Get keys.entry None with_cas)) (drop sent output.old.items) (drop result.sent output.new.items) }
     ensures len { length (drop result.sent output.new.items)
         ≤ length (drop sent output.old.items) + (LINE_ROOM + keys_room KEY_ROOM keys.entry cache.old) }
+    ensures work { result.work ≡ min (1 + length keys.entry) (2 ^ 64 - 1) }
     ensures half { 2 * result.sent ≤ vec_len output.new }
 {
     if room >= GATHER_ROOM
@@ -73,8 +77,12 @@ pub fn serve_get<S: Store + Drop, W: Gather>(
             writer,
         );
     }
-    serve_keys(keys, None, with_cas, cache, moment, ahead, output);
-    Put { sent, went: 0 }
+    let work = serve_keys(keys, None, with_cas, cache, moment, ahead, output);
+    Put {
+        sent,
+        went: 0,
+        work,
+    }
 }
 
 /// Returns the key of a retrieval that has no other.
@@ -109,10 +117,15 @@ fn serve_lone<S: Store + Drop, W: Gather>(
         (Whole (Get (key.now ∷ []) None with_cas)) (drop sent output.old.items) (drop result.sent output.new.items) }
     ensures len { length (drop result.sent output.new.items)
         ≤ length (drop sent output.old.items) + (LINE_ROOM + keys_room KEY_ROOM (key.now ∷ []) cache.old) }
+    ensures work { result.work ≡ LONE_WORK }
     ensures half { 2 * result.sent ≤ vec_len output.new }
 {
     if !serve_head(key, hint, with_cas, cache, moment, output) {
-        return Put { sent, went: 0 };
+        return Put {
+            sent,
+            went: 0,
+            work: LONE_WORK,
+        };
     }
     put_out(sent, output, cache.front_value(), writer)
 }
@@ -157,6 +170,7 @@ fn put_out<W: Gather>(sent: usize, output: &mut Vec<u8>, value: &[u8], writer: &
         (W.contents writer.old) (W.contents writer.new) }
     ensures left { drop result.sent output.new.items
         ≡ drop result.went (drop sent output.old.items ++ (value.now ++ codes "\r\nEND\r\n")) }
+    ensures work { result.work ≡ LONE_WORK }
     ensures half { 2 * result.sent ≤ vec_len output.new }
 {
     let end = b"\r\nEND\r\n".as_slice();
@@ -170,6 +184,7 @@ fn put_out<W: Gather>(sent: usize, output: &mut Vec<u8>, value: &[u8], writer: &
     Put {
         sent: consume_front(output, sent + taken),
         went,
+        work: LONE_WORK,
     }
 }
 

@@ -11,6 +11,9 @@ use mc_request::RequestRef;
 use mc_store::Store;
 use mc_text::WordIter;
 
+/// The bytes that are copied or compared for one unit of work: 1 KiB.
+pub const WORK_BYTES: usize = 1024;
+
 /// No bound is more than this many times the room for the answer.
 const BOUND_BY_ROOM: usize = 16;
 

@@ -38,7 +38,7 @@ const WRITES: [&[Call]; 11] = [
     &[Moves(300_000)],
     &[Moves(500_023), Moves(usize::MAX)],
     &[Moves(500_027), Moves(usize::MAX)],
-    &[Moves(0), Moves(usize::MAX)],
+    &[Moves(0), Moves(usize::MAX), Moves(usize::MAX)],
     &[Blocks, Moves(usize::MAX)],
     &[Interrupts, Moves(100_000), Blocks],
     &[Blocks, Blocks, Moves(7), Interrupts, Moves(usize::MAX)],
@@ -123,7 +123,7 @@ fn ends_so(
 #[test]
 fn a_failing_stream_ends_one_connection(rt: HostRuntime) -> Result<(), Fail> {
     let alloc = rt.alloc();
-    let asked = b"get a\r\nset b 0 0 1\r\nx\r\n";
+    let asked = b"set b 0 0 1\r\nx\r\nget a\r\n";
     let mut failing = Stream::new(alloc, asked, Sides::new((ALL, &[Fails])))?;
     let mut later = Stream::new(alloc, b"get b\r\n", Sides::new((ALL, ALL)))?;
     let mut server = server_with_value(alloc)?;

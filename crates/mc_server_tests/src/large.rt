@@ -68,12 +68,14 @@ fn feed(
 
 fn turn_once(server: &mut Server<MeagreStore>, number: u64) -> Result<Limited, ServerError> {
     let mut went = 0;
+    let mut work = 0;
     server.turn_gathering(
         number,
         MOMENT,
         AnswerLimit::none(),
         &mut NoWriter,
         &mut went,
+        &mut work,
     )
 }
 

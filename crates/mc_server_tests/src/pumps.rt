@@ -5,7 +5,7 @@ use crate::meagre::MeagreStore;
 use crate::servers::{MOMENT, WIDE, new_server};
 use crate::streams::Call::{Blocks, Fails, Interrupts, Moves};
 use crate::streams::{Call, Calls, MANY, SCRIPTS, Sides, Stream};
-use mc_pump::{MAX_ROUNDS, Pumped, UNSENT_MARK, Watch, pump};
+use mc_pump::{MAX_ROUNDS, Pumped, QUANTUM, UNSENT_MARK, Watch, pump};
 use mc_server::{AnswerLimit, Server, ServerError};
 use std::alloc::Global;
 use std::test::Fail;
@@ -218,14 +218,14 @@ pub fn server_with_value(alloc: Global) -> Result<Server<MeagreStore>, Fail> {
     Ok(server)
 }
 
-/// How many bytes are unsent after a pump.
-fn unsent_after_a_pump(
-    server: &mut Server<MeagreStore>,
-    number: u64,
-    stream: &mut Stream,
-) -> usize {
+/// How many bytes are unsent after pumps, the last of which is the first that cannot go on.
+fn unsent_after_pumps(server: &mut Server<MeagreStore>, number: u64, stream: &mut Stream) -> usize {
     let mut watch = Watch::new(AnswerLimit::none());
-    let _ = pump_once(server, number, &mut false, stream, &mut watch);
+    for _ in 0..MANY {
+        if pump_once(server, number, &mut false, stream, &mut watch) != Pumped::Again {
+            break;
+        }
+    }
     server.output(number).len()
 }
 
@@ -251,8 +251,8 @@ fn stops_at(
     answer: usize,
 ) -> Result<bool, ServerError> {
     let number = server.admit()?;
-    let unsent = unsent_after_a_pump(server, number, stream);
-    let still = unsent_after_a_pump(server, number, stream);
+    let unsent = unsent_after_pumps(server, number, stream);
+    let still = unsent_after_pumps(server, number, stream);
     let nine = answer.saturating_mul(9);
     let are_unsent = unsent == nine && still == nine && nine >= UNSENT_MARK;
     let is_stopped = are_unsent && stream.source.calls.made == 9;
@@ -337,4 +337,21 @@ fn is_read_so(alloc: Global, case: &WideReads, sent: &[u8], answers: &[u8]) -> R
     let last = pumped_by(&mut server, number, &mut stream, true);
     let is_answered = stream.sink.taken.as_slice() == answers;
     Ok(last == Pumped::Done && is_answered && stream.source.calls.made == case.made)
+}
+
+/// A pump takes no more turns once they have cost its quantum, though whole requests are pending. The next pump goes on.
+#[test]
+fn a_pump_ends_once_its_quantum_is_spent(rt: HostRuntime) -> Result<(), Fail> {
+    let asked = b"mn\r\n".repeat(rt.alloc(), 2_000)?;
+    let mut stream = Stream::new(rt.alloc(), &asked, Sides::new((ALL, ALL)))?;
+    let mut server = new_server(rt.alloc(), WIDE)?;
+    let number = server.admit()?;
+    server.feed(number, b"mn\r\n")?;
+    let mut watch = Watch::new(AnswerLimit::none());
+    let last = pump_wide(&mut server, number, &mut false, &mut stream, &mut watch);
+    let is_spent = watch.tally.requests == QUANTUM && server.ready(number)?;
+    let is_done = pumped_by(&mut server, number, &mut stream, true) == Pumped::Done;
+    assert!(rt; last == Pumped::Again && is_spent && is_done);
+    assert!(rt; stream.sink.taken.len() == asked.len() + 4);
+    Ok(())
 }

@@ -6,7 +6,7 @@ ghost use Rattle.mc_pump.specs.Pumps.{Pumps};
 use crate::options::PROGRAM;
 use crate::sides::{Received, Sent};
 use crate::store_stats::StoreStats;
-use mc_net::{AfterPump, Client, Handler, PIECE_LEN, guarded, step_after};
+use mc_net::{AfterPump, Client, Handler, Input, PIECE_LEN, step_after};
 use mc_program::{EprintSeldom, OncePerSecond, Said};
 use mc_pump::{Pumped, Watch, pump_gathering};
 use mc_server::{AnswerLimit, Server, ServerError};
@@ -124,13 +124,17 @@ impl<S: Store + Drop> Handler<()> for ServerHandler<S> {
             moment,
             &mut self.watch,
         );
-        if pumped == Pumped::Failed {
+        let foreign = mem::replace(&mut self.watch.foreign, false);
+        if pumped == Pumped::Failed && !foreign {
             self.note_failed(failed);
         }
         self.note_refused_stores();
         if !self.server.holds_reserve(self.reserve) {
             self.server.shrink_if_idle(client.number, 0);
             let _ = self.server.keep_reserve(self.reserve);
+        }
+        if foreign {
+            return AfterPump::TurnAway;
         }
         step_after(pumped)
     }
@@ -164,7 +168,10 @@ fn pump_client<S: Store + Drop>(
     ensures number { client.new.number ≡ client.old.number }
 {
     let mut input = Received {
-        stream: guarded(&client.stream, client.first, client.readiness),
+        stream: Input {
+            stream: &client.stream,
+            readiness: client.readiness,
+        },
         failed: false,
     };
     let mut output = Sent {
@@ -182,6 +189,5 @@ fn pump_client<S: Store + Drop>(
         watch,
     );
     client.readiness = input.stream.readiness;
-    client.first = input.stream.stream.first;
     (pumped, input.failed || output.failed)
 }

@@ -238,18 +238,19 @@ where
     fn begin(&mut self, _rt: &R, clock: &mut SystemSeconds<'a, R>) {
         self.moment = clock.now();
         self.counts.come_to(self.moment);
-        self.clients.go_on(&mut self.handler, self.moment);
     }
 
     fn wake(&mut self, event: &Event) {
         if self.operators.has(event.token()) {
             self.operators.note(event);
         } else {
-            self.clients.wake(&mut self.handler, event, self.moment);
+            self.clients.wake(event, self.moment);
         }
     }
 
-    fn carry_on(&mut self, _registry: &Registry) {}
+    fn carry_on(&mut self, _registry: &Registry) {
+        self.clients.serve_ready(&mut self.handler, self.moment);
+    }
 
     fn is_open(&self) -> bool {
         !self.is_full()

@@ -1,4 +1,4 @@
-use Rattle.std.proofs.Common.{false, arith}
+use Rattle.std.proofs.Common.{false, refl, arith}
 use Rattle.mc_server.proofs.RoomLemmas.{keys_room-shrinks}
 use Rattle.mc_server.proofs.GetLemmas.{good_keys, serving_none, serving_more, serving_all}
 use Rattle.mc_server.proofs.answering.serve_keys.Goals as goal
@@ -11,6 +11,8 @@ loop-key-init g c =
       served = serving_none c.args.keys c.args.exptime c.args.with_cas c.args.moment c.args.cache.now c.args.output.now.items;
       room = c.requires.room;
       len = omega arith;
+      work = refl;
+      bound = omega arith;
     })
 
 -- one key more
@@ -22,6 +24,7 @@ loop-key-preserved g c =
     let shrinks = keys_room-shrinks 384 left c.loop-key.cache c.serve_key.new.cache facts.shrinks in
     let room = rw c.in-Some.ensures.steps at c.loop-key.invariant.room in
     let len = rw c.in-Some.ensures.steps at c.loop-key.invariant.len in
+    let count = rw c.in-Some.ensures.steps at c.loop-key.invariant.work in
     record {
       good = (good_keys c.loop-key.key-iterator left key c.in-Some.ensures.steps c.loop-key.invariant.good).1;
       served = serving_more c.args.keys left key c.args.exptime c.args.with_cas c.args.moment c.args.cache.now c.loop-key.cache c.serve_key.new.cache
@@ -29,6 +32,8 @@ loop-key-preserved g c =
           (rw c.in-Some.ensures.steps at c.loop-key.invariant.served);
       room = omega (arith, room, shrinks, facts.len, facts.room);
       len = omega (arith, len, shrinks, facts.len);
+      work = grind (arith, count, c.saturating_add-work.ensures, c.loop-key.invariant.bound);
+      bound = grind (arith, c.saturating_add-work.ensures);
     }
 
 -- each key is served, and the end is written

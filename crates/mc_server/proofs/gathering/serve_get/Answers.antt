@@ -20,12 +20,12 @@ returns-clause-len g c = rw c.in-Some.ensures c.serve_lone.ensures.len
 -- all goes after what is unsent
 pub returns-2-clause-put : goal.returns-2-clause-put
 returns-2-clause-put g c number =
-    puts_none number c.args.moment _ c.args.cache.now c.serve_keys.new.cache _ _ _
-    (served_behind number c.args.moment c.args.sent c.args.cache.now c.serve_keys.new.cache _ c.args.output.now.items c.serve_keys.new.output.items (omega arith)
-    (c.serve_keys.ensures.served number))
+    puts_none number c.args.moment _ c.args.cache.now c.serve_keys-work.new.cache _ _ _
+    (served_behind number c.args.moment c.args.sent c.args.cache.now c.serve_keys-work.new.cache _ c.args.output.now.items c.serve_keys-work.new.output.items (omega arith)
+    (c.serve_keys-work.ensures.served number))
 
 pub returns-2-clause-half : goal.returns-2-clause-half
 returns-2-clause-half g c =
-    let served = (c.serve_keys.ensures.served 0).1 in
-    let longer : length c.args.output.now.items ≤ length c.serve_keys.new.output.items = rw (served.answered, length-append) (omega arith) in
-    omega (arith, c.serve_keys.new.output.ok, c.args.output.now.ok, longer, c.requires.half)
+    let served = (c.serve_keys-work.ensures.served 0).1 in
+    let longer : length c.args.output.now.items ≤ length c.serve_keys-work.new.output.items = rw (served.answered, length-append) (omega arith) in
+    omega (arith, c.serve_keys-work.new.output.ok, c.args.output.now.ok, longer, c.requires.half)

@@ -6,5 +6,5 @@ use Rattle.mc_request_reader.proofs.apart.Apart.is_alone.Goals as goal
 pub returns : goal.returns
 returns c =
     let r = c.self.inside in
-    let alone = alone_beside r.line.items r.block r.wanted c.self.invariant in
+    let alone = alone_beside r.line.items r.block r.wanted c.self.invariant.announces in
     rw (← c.self.view_is) (λ same. alone (grind (arith, nat_tests)))

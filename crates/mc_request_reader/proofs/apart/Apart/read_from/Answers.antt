@@ -15,4 +15,4 @@ returns-clause-read g c =
     (λ e. ap (λ (bytes : List ℕ). joined r.line.items bytes) e) h))
 
 pub returns-clause-little : goal.returns-clause-little
-returns-clause-little g c = little_beside _ _ c.self.inside.wanted c.self.invariant
+returns-clause-little g c = little_beside _ _ c.self.inside.wanted c.self.invariant.announces

@@ -20,10 +20,11 @@ pub invariant_of-self : goal.invariant_of-self
 invariant_of-self c =
     let u = drop c.self.inside.start c.self.inside.buffer.items in
     let inside : c.self.inside.start ≤ length c.self.inside.buffer.items = omega (arith, c.self.invariant.half) in
-    let new_is = ap (λ (xs : List ℕ). drop c.self.inside.start xs) c.in_ok-extend_from_slice-in-None.ensures.items
+    let items = rw c.make_room.ensures at c.in_ok-extend_from_slice-in-None.ensures.items in
+    let new_is = ap (λ (xs : List ℕ). drop c.self.inside.start xs) items
     ∙ drop-append-le c.self.inside.start c.self.inside.buffer.items c.args.piece.now inside in
     record {
-      half = omega (arith, c.self.invariant.half, c.in_ok-extend_from_slice-in-None.ensures.len);
+      half = omega (arith, c.self.invariant.half, ap (λ (xs : List ℕ). length xs) items, length-append c.self.inside.buffer.items c.args.piece.now);
       searched = rw new_is (searched_more c.self.inside.searched u c.args.piece.now c.self.invariant.searched);
       short = rw new_is (short_more c.self.inside.wanted u c.args.piece.now c.self.invariant.short);
       limit = c.self.invariant.limit;
