@@ -375,13 +375,16 @@ class Askers(Helper):
             selector.unregister(key.fileobj)
 
 
+QUESTION, VERSION = b"version\r\n", b"VERSION 1.6.0\r\n"  # what our proxy asks a server before it uses it
+
+
 class Silent(Played):
-    """A server that reads everything and answers nothing."""
+    """A server that reads everything and answers nothing, except what a proxy asks before it uses a server."""
 
     is_reading = True
 
     def __init__(self):
-        self.links = []
+        self.links, self.asked = [], set()
         super().__init__(SPEED, 1_448)
 
     def play(self, speed):
@@ -401,10 +404,16 @@ class Silent(Played):
             link, _ = self.listener.accept()
             link.setsockopt(socket.IPPROTO_TCP, socket.TCP_NODELAY, 1)
             self.links.append(link)
-            if self.is_reading:
-                selector.register(link, selectors.EVENT_READ)
+            selector.register(link, selectors.EVENT_READ)
             return
         try:
+            if key.fileobj not in self.asked:
+                self.asked.add(key.fileobj)
+                if self.answered(key.fileobj):
+                    return
+            if not self.is_reading:
+                selector.unregister(key.fileobj)
+                return
             piece = key.fileobj.recv(1 << 20)
         except OSError:
             piece = b""
@@ -412,6 +421,14 @@ class Silent(Played):
             self.take(key.fileobj, piece)
         else:
             selector.unregister(key.fileobj)
+
+    def answered(self, link):
+        """Answers the question of a proxy, and says whether there was one."""
+        if link.recv(len(QUESTION), socket.MSG_PEEK) != QUESTION:
+            return False
+        link.recv(len(QUESTION))
+        link.sendall(VERSION)
+        return True
 
     def take(self, link, piece):
         pass
