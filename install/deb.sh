@@ -79,7 +79,7 @@ done
 mkdir -p "$documents"
 copyright > "$documents/copyright"
 cp "$work/changelog" "$documents/changelog"
-install -m 644 README.md docs/RUNNING.md docs/PROTOCOL.md docs/SCRIPTS.md "$documents"
+install -m 644 README.md docs/RUNNING.md docs/PROTOCOL.md docs/GUARANTEES.md docs/SCRIPTS.md "$documents"
 find "$root/usr/share/man" "$documents" -type f ! -name copyright -exec gzip -9n {} +
 install -m 644 install/dashboard.json install/alerts.yml "$documents"
 

@@ -23,7 +23,7 @@ PAGES = {
         "Serves clients of memcached's text protocol over one cache in memory. It prints one line, 'listening <host>:<port>', "
         "and serves until it is ended. On standard error it says at the start how many connections it can serve, where the "
         "system allows fewer open files than 1,024 connections need, that a request was refused whose answer may be larger "
-        "than --answer allows, and how many were refused memory. At a terminal, or for systemd's journal, it also says at the start "
+        "than --answer allows, that a client was closed which kept what others waited for, and how many were refused memory. At a terminal, or for systemd's journal, it also says at the start "
         "how much memory it may take.",
         {**SERVES, 4: "there is no memory to start with, or was none for as long as --memory-exit says"},
         "mc_proxyd(1), mc_sim(1)",
@@ -32,7 +32,8 @@ PAGES = {
         "a memcached proxy that makes one pool of several servers",
         "Serves clients of memcached's text protocol over up to 64 servers, each key by the server that libketama's ring names. "
         "It prints one line, 'listening <host>:<port>', and serves until it is ended. On standard error it says which servers "
-        "are refused, lost and back, and that open files allow no more clients. If a server is lost, requests for its keys get an error "
+        "are refused, lost and back, that open files allow no more clients, that a request was refused whose answer may be larger than --answer "
+        "allows, and that a client was closed since it kept the memory of --buffers. If a server is lost, requests for its keys get an error "
         "line, or with --lost missed they miss. A server may have a name, by which keys are spread and "
         "it is told: <name>:<port>=<host>:<port>. With --servers they are lines of a file, which is looked at once a second: a line that is "
         "appended joins, and another address behind a name is taken over. '#' begins a comment. No server is taken out while it runs.",

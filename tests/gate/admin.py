@@ -46,6 +46,7 @@ VARYING = [
     (rb"(wiersbol_process_id|STAT pid) \d+", rb"\1 PID"),
     (rb"(memcached_uptime_seconds|STAT uptime) \d+", rb"\1 UPTIME"),
     (rb"(memcached_time_seconds|STAT time) 1\d{9}\b", rb"\1 TIME"),
+    (rb"(wiersbol_buffered_bytes|STAT buffered_bytes) \d+", rb"\1 BUFFERED"),
     (rb"(process_resident_memory_bytes|STAT resident_bytes) [1-9]\d{6,}\b", rb"\1 MEMORY"),
 ]
 
@@ -119,7 +120,7 @@ def statistics_are_shown(program):
 
 
 def settings_are_shown(program):
-    words = "--store lru --idle 7 --report 3600 --answer 2048 --cas-from now --memory-exit 9 --reserve 128K".split()
+    words = "--store lru --idle 7 --report 3600 --answer 2048 --buffers 8M --cas-from now --memory-exit 9 --reserve 128K".split()
     with server(program, *words) as (_, admin):
         want(masked(admin.told(b"stats settings\r\nquit\r\n")), (HERE / "serverd.settings").read_text())
     for words, last in (([], b"0"), (["--cas-from", "18"], b"18")):
@@ -206,7 +207,7 @@ def a_proxy_shows_its_servers(program, proxy_program):
 
 def settings_of_a_proxy_are_shown(proxy_program):
     port = free_port()
-    words = f"--idle 7 --held 3M --timeout 900 --lost missed --report 3600 --admin {HOST}:{port}".split()
+    words = f"--idle 7 --held 3M --buffers 8M --answer 2M --timeout 900 --lost missed --report 3600 --admin {HOST}:{port}".split()
     with Proxy(proxy_program, [f"{HOST}:{free_port()}" for _ in range(2)], words):
         want(masked(Admin(port).told(b"stats settings\r\nquit\r\n")), (HERE / "proxyd.settings").read_text())
 

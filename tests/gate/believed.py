@@ -6,7 +6,8 @@ Usage: believed.py [--check]
 
 From the clauses of a function's contract it follows the names of definitions, as they are imported (`ghost use` in a source, `use` in
 specs/), from one definition to the next, and the types of the sources that these name. Definitions of Rattle's own libraries are not
-listed, nor are helpers that only proofs cite. It writes
+listed, nor are helpers that only proofs cite. Beside the account of a pool it follows the clause `steps` of the same call, which says what
+an event does to the pool. It writes
 
 - docs/definitions.txt: each definition by crate and file, with its lines, without comments and empty ones, and which headlines need it;
 - docs/DEFINITIONS.md, between two marks: how many definitions and lines each headline needs;
@@ -42,7 +43,8 @@ RUST_USE = re.compile(r"(?m)^(?:pub )?use (\w+)(?:::\w+)*::(?:\{([^}]*)\}|(\w+))
 
 class Root(NamedTuple):
     """A theorem: its title, its letter in the list, the function whose contract it is, its name on pages, the clauses that state it, and
-    lists of its own for some of the definitions: their title, their letter, and their crate, file and names."""
+    lists of its own for some of the definitions: their title, their letter, and their crate, file and names. Then clauses of the same
+    contract that say what the theorem is about: their title, their letter, and their names."""
 
     title: str
     letter: str
@@ -52,6 +54,7 @@ class Root(NamedTuple):
     called: str
     clauses: tuple
     apart: tuple = ()
+    beside: tuple = ()
 
 
 GRAMMAR = (
@@ -85,7 +88,16 @@ ROOTS = [
         ("linearizable",),
         (GRAMMAR, READINGS),
     ),
-    Root("The account of a pool", "A", "mc_world", "worlds.rt", "step", "World::step", ("account",)),
+    Root(
+        "The account of a pool",
+        "A",
+        "mc_world",
+        "worlds.rt",
+        "step",
+        "World::step",
+        ("account",),
+        beside=(("what its events do, `steps`", "E", ("steps",)),),
+    ),
     Root("One server", "S", "mc_script", "texts.rt", "text_of_script", "text_of_script", ("text",)),
 ]
 
@@ -241,15 +253,15 @@ def next_of(it):
 # A theorem.
 
 
-def contract_of(root):
-    """The clauses of a function's contract that state a theorem, and the imports before them."""
+def contract_of(root, clauses):
+    """The clauses of these names in the contract of a theorem's function, and the imports before them."""
     text = (CRATES / root.crate / "src" / root.file).read_text()
     found = re.search(rf"fn {root.function}(<[^(]*>)?\(", text)
     before, after = (text[: found.start()], text[found.end() :]) if found else (text, "")
-    clauses = re.findall(r"(?m)^\s*ensures (\w+) \{(.*)\}$", after.split("\n    {\n", 1)[0].split("\n{\n", 1)[0])
-    stated = [words for name, words in clauses if name in root.clauses]
-    if not found or len(stated) != len(root.clauses):
-        sys.exit(f"believed.py: {root.crate}/src/{root.file} has no function {root.function} with the clauses {', '.join(root.clauses)}")
+    written = re.findall(r"(?m)^\s*ensures (\w+) \{(.*)\}$", after.split("\n    {\n", 1)[0].split("\n{\n", 1)[0])
+    stated = [words for name, words in written if name in clauses]
+    if not found or len(stated) != len(clauses):
+        sys.exit(f"believed.py: {root.crate}/src/{root.file} has no function {root.function} with the clauses {', '.join(clauses)}")
     return "\n".join(stated), imported(before)
 
 
@@ -266,14 +278,23 @@ def led_to(left, but=frozenset()):
 
 def reached(root):
     """All that the clauses of a theorem lead to."""
-    return led_to(named(*contract_of(root)))
+    return led_to(named(*contract_of(root, root.clauses)))
+
+
+def beside(root):
+    """Each list of what the clauses beside a theorem lead to, and it and the lists before do not, with its title and letter."""
+    found = reached(root)
+    for title, letter, clauses in root.beside:
+        more = led_to(named(*contract_of(root, clauses))) - found
+        found |= more
+        yield title, letter, more
 
 
 def parted(root):
     """The definitions that are read for a theorem alone, and then each list of its own: the definitions there, and those that they also
     lead to."""
     lists = [{Definition(*it) for it in names} for _, _, names in root.apart]
-    alone = led_to(named(*contract_of(root)), set().union(*lists))
+    alone = led_to(named(*contract_of(root, root.clauses)), set().union(*lists))
     parts = [led_to(names) for names in lists[:1]]
     alone -= set().union(*parts)
     for names in lists[1:]:
@@ -316,7 +337,8 @@ def counts():
         if parts:
             yield row(f"of these the register, `{REGISTER.name}`", led_to([REGISTER]) & alone)
         yield from (row(f"beside these {title}", part) for (title, *_), part in zip(root.apart, parts))
-    yield row("In common to the last two", reached(ROOTS[1]) & reached(ROOTS[2]))
+        yield from (row(f"beside these {title}", more) for title, _, more in beside(root))
+    yield row("In common to the account of a pool and one server", reached(ROOTS[1]) & reached(ROOTS[2]))
 
 
 def with_counts(page):
@@ -342,6 +364,7 @@ def lettered():
         alone, parts = parted(root)
         yield root.letter, alone
         yield from ((letter, part) for (_, letter, _), part in zip(root.apart, parts))
+        yield from ((letter, more) for _, letter, more in beside(root))
 
 
 def listed():
@@ -354,6 +377,7 @@ def listed():
     for root in ROOTS:
         yield f"{root.letter}  {root.title[0].lower()}{root.title[1:]}"
         yield from (f"{letter}  {title}, which {root.letter} needs too" for title, letter, _ in root.apart)
+        yield from (f"{letter}  {title}, which {root.letter} is about" for title, letter, _ in root.beside)
     for crate, is_type, file in sorted({(it.crate, it.is_type(), it.file) for it in found}, key=lambda it: (crates.index(it[0]), *it[1:])):
         here = {it for it in found if (it.crate, it.file) == (crate, file)}
         lines = list(types_of(crate) if is_type else definitions_of(crate, file))
@@ -436,7 +460,8 @@ def explained():
 
 def checks():
     """Whether each thing is right, and the message if it is not."""
-    names, believed = explained(), {it for it in set().union(*map(reached, ROOTS)) if not it.is_type()}
+    needed = set().union(*map(reached, ROOTS), *(more for root in ROOTS for _, _, more in beside(root)))
+    names, believed = explained(), {it for it in needed if not it.is_type()}
     for it in sorted(believed):
         yield it.name in names, f"docs/DEFINITIONS.md does not explain {it.name} of {it.crate}/specs/{it.file}"
     more = sorted(names - {it.name for it in believed})
@@ -444,8 +469,9 @@ def checks():
     for page, text in pages().items():
         yield page.is_file() and page.read_text() == text, f"{page.relative_to(TOP)} is stale: run tests/gate/believed.py"
     for root in ROOTS:
-        count = f"{sizes([it for it in parted(root)[0] if not it.is_type()])[1]:,} lines"
-        yield count in README.read_text(), f"README.md does not say that {root.title.lower()} takes {count}"
+        for title, found in ((root.title, parted(root)[0]), *((f"{root.title}: {title}", more) for title, _, more in beside(root))):
+            count = f"{sizes([it for it in found if not it.is_type()])[1]:,} lines"
+            yield count in README.read_text(), f"README.md does not say {count} for: {title}"
 
 
 def main():

@@ -14,6 +14,7 @@ import math
 import os
 import pathlib
 import resource
+import select
 import signal
 import socket
 import subprocess
@@ -24,7 +25,7 @@ import time
 sys.path.insert(0, str(pathlib.Path(__file__).resolve().parents[1] / "lib"))
 
 from checks import (
-    UNKNOWN_HOSTS, Program, asked, checks_of_words, is_served, received, received_to_the_end, settles, tally, want, want_at_most,
+    PATIENCE, UNKNOWN_HOSTS, Program, asked, checks_of_words, is_served, received, received_to_the_end, settles, tally, want, want_at_most,
     words_are_refused, wrong_sizes_are_refused,
 )  # fmt: skip
 from connections import checks_of_connections, fields_of, lines_said, no_client_gets_a_standard_stream
@@ -67,6 +68,7 @@ SETTINGS = {
     "one_that_joins": ("--join b:1 --join-after 1", "servers 1 points 160"),
     "the_longest_host": ("a-Z.9" * 51 + ":65535", "servers 2 points 320"),
     "losses_that_are_missed": ("--lost missed b:2", "servers 2 points 320 lost missed"),
+    "little_memory": ("--buffers 4M --answer 1K b:2", "servers 2 points 320 buffers 4194304 answer 1024"),
     "names": ("a:1=b:2 --join c:3=b:2 --join-after 1 b:2=127.0.0.1:1", "servers 3 points 480"),
     "an_address_with_its_own_name": ("b:2=b:2", "servers 2 points 320"),
 }
@@ -157,6 +159,8 @@ def no_server_is_refused():
 
 def sizes_are_within_their_limits():
     wrong_sizes_are_refused(PROXY, "held", 1)
+    wrong_sizes_are_refused(PROXY, "buffers", 4_194_304)
+    wrong_sizes_are_refused(PROXY, "answer", 1024)
     want(PROXY.run("--check", "--held=256m"), (0, "servers 1 points 160\n", ""))
 
 
@@ -498,10 +502,10 @@ def what_comes_together_goes_on_together():
         [link] = pool.links
         is_served(client)
         before = data_segments(link), data_segments(client)
-        text = b"get a\r\n" * 50
+        text = b"get a\r\n" * 32
         client.sendall(text)
         want(received(link, len(text)), text)
-        replies = stored(b"a")[3] * 50
+        replies = stored(b"a")[3] * 32
         link.sendall(replies)
         want(received(client, len(replies)), replies)
         want((data_segments(link) - before[0], data_segments(client) - before[1]), (1, 1))
@@ -719,6 +723,96 @@ def who_is_kept_too_much_for_waits():
         want(received(client, 10), b"END\r\n" * 2)
 
 
+def who_asks_for_much_and_reads_nothing_is_closed():
+    """Its replies are all that is kept. Another client is answered meanwhile, and afterwards, and memory is given back."""
+    with Pool(["--buffers", "8M", "--timeout", "0"]) as pool, pool.connected() as other, pool.connected() as greedy:
+        put, told, get, shown = stored(pool.ring.key(0), b"v" * 100_000)
+        own = stored(pool.ring.key(1), b"w")
+        asked(other, put, told)
+        asked(other, own[0], own[1])
+        greedy.sendall(get * 1_000)
+        closed = False
+        while not closed:
+            asked(other, own[2], own[3])
+            closed = pool.process.stderr in select.select([pool.process.stderr], [], [], 0)[0]
+        [line] = lines_said(pool)
+        want(line.split(" closed: it kept ")[1].split(" bytes ")[1], "while the memory for clients was used up")
+        asked(other, get, shown)
+        with contextlib.suppress(ConnectionError):
+            received_to_the_end(greedy)
+
+
+def who_reads_all_that_it_asks_for_is_kept():
+    """Ten clients each have eight gets of 100 KB pending all the time, and read their answers: 100 MB pass through a proxy that keeps 16 MB at most."""
+    with Pool(["--buffers", "16M", "--held", "2M", "--timeout", "0"]) as pool, contextlib.ExitStack() as stack:
+        put, told, get, shown = stored(b"a", b"v" * 100_000)
+        clients = [stack.enter_context(pool.connected()) for _ in range(10)]
+        asked(clients[0], put, told)
+        whole = []
+
+        def read_all(client):
+            client.sendall(get * 8)
+            for left in range(100, 0, -1):
+                if received(client, len(shown)) != shown:
+                    return
+                if left > 8:
+                    client.sendall(get)
+            whole.append(client)
+
+        readers = [threading.Thread(target=read_all, args=(client,)) for client in clients]
+        for reader in readers:
+            reader.start()
+        for reader in readers:
+            reader.join()
+        want(len(whole), 10)
+        nothing_is_said(pool)
+
+
+def an_answer_that_is_too_large_is_refused():
+    """By --answer, or by half of --buffers: it closes the client, after the answers before it. A line says so."""
+    for words, most in ((["--answer", "1M"], 1_048_576), (["--buffers", "4M"], 2_097_152)):
+        with Pool([*words, "--timeout", "0"]) as pool, pool.connected() as client, pool.connected() as other:
+            put, told, get, shown = stored(b"a", b"v" * (most // 3))
+            asked(client, put, told)
+            asked(client, get, shown)
+            client.sendall(get + b"get" + b" a" * 4 + b"\r\n" + get)
+            want(received_to_the_end(client) == shown, True)
+            is_said(pool, f"request refused: its answer may have more than {most} bytes")
+            asked(other, b"get a a\r\n", shown[:-5] * 2 + b"END\r\n")
+
+
+def is_sent(client, link, text):
+    """Sends a request until it arrives at the server: it is lost as long as the proxy has not read the server's first answer."""
+    while True:
+        client.sendall(text)
+        if link in select.select([link, client], [], [], PATIENCE)[0]:
+            break
+        want(received(client, len(LOST)), LOST)
+    want(received(link, len(text)), text)
+
+
+def a_server_that_answers_no_command_is_tried_less():
+    """It answers that it is there, and then nothing: it is tried again later each time, so that its keys seldom wait for a timeout. Once it has answered
+    a command, it is tried again at once."""
+    with Played(1, ["--timeout", "200"]) as pool, pool.connected() as client:
+        link, waited = pool.links[0], []
+        for _ in range(5):
+            is_sent(client, link, b"get a\r\n")
+            want(received(client, len(LOST)), LOST)
+            begun = time.monotonic()
+            link = pool.stack.enter_context(pool.servers[0].accept())
+            waited.append(time.monotonic() - begun)
+        want(([seconds < 1.2 for seconds in waited[:3]], 1.5 < waited[4] < 3.5), ([True] * 3, True))
+        is_sent(client, link, b"get a\r\n")
+        link.sendall(b"END\r\n")
+        want(received(client, 5), b"END\r\n")
+        time.sleep(1)
+        link.close()
+        begun = time.monotonic()
+        pool.stack.enter_context(pool.servers[0].accept())
+        want_at_most(time.monotonic() - begun, 0.2)
+
+
 def a_late_reply_loses_the_link():
     """Once it is late by the oldest pending command, and no sooner: pending commands are answered, and bytes that arrive later
     reach nobody."""
@@ -776,6 +870,7 @@ def a_report_is_said():
             fields = fields_of(next_report(pool), "mc_proxyd")
         servers = [fields_of(line, "mc_proxyd") for line in lines_said(pool, 2)]
         want(int(fields.pop("uptime")) >= 1, True)
+        want(0 <= int(fields.pop("buffered")) <= 65_536, True)
         wanted = dict(connections=1, accepted=1, refused=0, requests=5, read=int(fields["read"]), written=10)
         want(fields, {key: str(number) for key, number in wanted.items()})
         first, second = (server.address for server in pool.servers)
@@ -832,6 +927,10 @@ def checks():
         half_a_reply_is_no_reply,
         who_ends_its_input_is_answered,
         who_is_kept_too_much_for_waits,
+        who_asks_for_much_and_reads_nothing_is_closed,
+        who_reads_all_that_it_asks_for_is_kept,
+        an_answer_that_is_too_large_is_refused,
+        a_server_that_answers_no_command_is_tried_less,
         a_late_reply_loses_the_link,
         a_slow_server_that_answers_is_kept,
         a_report_is_said,

@@ -30,23 +30,24 @@ from suite import are_built
 
 HELP = pathlib.Path(__file__).with_name("serverd.help").read_text()
 VALUE = b"v" * 1_000_000
-ANSWER = b"VALUE k 0 1000000\r\n" + VALUE + b"\r\nEND\r\n"
+ITEM = b"VALUE k 0 1000000\r\n" + VALUE + b"\r\n"
+ANSWER = ITEM + b"END\r\n"
 
 # --check: the words beside it, and its output.
 SETTINGS = {
     "the_defaults": ("", "listen 127.0.0.1:11211 budget 67108864 items 65536 accept 0"),
     "the_least": (
-        "--listen a:1 --budget 1 --items 1 --store lru --accept 0 --answer 1024 --idle 0 --report 0",
-        "listen a:1 budget 1 items 1 accept 0 store lru answer 1024",
+        "--listen a:1 --budget 1 --items 1 --store lru --accept 0 --answer 1024 --buffers 4194304 --idle 0 --report 0",
+        "listen a:1 budget 1 items 1 accept 0 store lru answer 1024 buffers 4194304",
     ),
     "the_greatest": (
         "--listen=Cache-7.example.org:65535 --budget=1099511627776 --items=16777216 --accept=18446744073709551615"
-        " --answer=1099511627776 --idle=18446744073709551615 --report=18446744073709551615",
+        " --answer=1099511627776 --buffers=1099511627776 --idle=18446744073709551615 --report=18446744073709551615",
         "listen Cache-7.example.org:65535 budget 1099511627776 items 16777216 accept 18446744073709551615"
-        " answer 1099511627776 idle 18446744073709551615 report 18446744073709551615",
+        " answer 1099511627776 buffers 1099511627776 idle 18446744073709551615 report 18446744073709551615",
     ),
     "the_defaults_in_words": (
-        "--answer 268435456 --idle 0 --report 0 --items 65536 --store table",
+        "--answer 268435456 --buffers 268435456 --idle 0 --report 0 --items 65536 --store table",
         "listen 127.0.0.1:11211 budget 67108864 items 65536 accept 0",
     ),
     "a_budget_alone": ("--budget 1000000000", "listen 127.0.0.1:11211 budget 1000000000 items 65536 accept 0"),
@@ -70,11 +71,11 @@ SETTINGS = {
     "a_log_that_was_asked_for": ("--report 1 --log", "listen 127.0.0.1:11211 budget 67108864 items 65536 accept 0 report 1 log"),
     "a_log_in_json": ("--log=json", "listen 127.0.0.1:11211 budget 67108864 items 65536 accept 0 log json"),
     "sizes_in_letters": (
-        "--budget 2G --answer 1K",
-        "listen 127.0.0.1:11211 budget 2147483648 items 65536 accept 0 answer 1024",
+        "--budget 2G --answer 1K --buffers 4M",
+        "listen 127.0.0.1:11211 budget 2147483648 items 65536 accept 0 answer 1024 buffers 4194304",
     ),
     "sizes_in_small_letters": (
-        "--budget=3m --answer=256m",
+        "--budget=3m --answer=256m --buffers=256m",
         "listen 127.0.0.1:11211 budget 3145728 items 65536 accept 0",
     ),
     "the_greatest_sizes_in_letters": (
@@ -194,6 +195,7 @@ def names_of_operators_are_hosts():
 def sizes_are_within_their_limits():
     wrong_sizes_are_refused(PROGRAM, "budget", 1)
     wrong_sizes_are_refused(PROGRAM, "answer", 1024, ("1023", "0", "0K"))
+    wrong_sizes_are_refused(PROGRAM, "buffers", 4_194_304, ("4194303", "3M", "4095K", "0", "0G"))
     wrong_sizes_are_refused(PROGRAM, "reserve", 0, ("1073741825", "1025M", "2G"), most=1)
 
 
@@ -220,22 +222,29 @@ def first_number(words):
 
 # How much memory a server may take, by its words: what it reports at its start, if an operator reads it.
 SAID_OF_MEMORY = {
-    "": ["may take 79.1 MB: budget 67.1 MB, 65,536 items", "65,536 items of 120 bytes fill 12.1 MB of 67.1 MB: write --items auto"],
-    "--items auto": ["may take 134.4 MB: budget 67.1 MB, 559,240 items"],
+    "": [
+        "may take 385.3 MB: budget 67.1 MB, 65,536 items, buffers 268.4 MB",
+        "65,536 items of 120 bytes fill 12.1 MB of 67.1 MB: write --items auto",
+    ],
+    "--items auto": ["may take 440.6 MB: budget 67.1 MB, 559,240 items, buffers 268.4 MB"],
+    "--items auto --buffers 4M": ["may take 176.4 MB: budget 67.1 MB, 559,240 items, buffers 4.2 MB"],
     "--budget 2000000000 --items 5000000": [
-        "may take 2.7 GB: budget 2.0 GB, 5,000,000 items",
+        "may take 3.0 GB: budget 2.0 GB, 5,000,000 items, buffers 268.4 MB",
         "5,000,000 items of 120 bytes fill 920.0 MB of 2.0 GB: write --items auto",
     ],
     "--budget 12000000000 --items auto": [
-        "may take 14.7 GB: budget 12.0 GB, 16,777,216 items",
+        "may take 15.0 GB: budget 12.0 GB, 16,777,216 items, buffers 268.4 MB",
         "16,777,216 items of 120 bytes fill 3.1 GB of 12.0 GB: a server holds no more: start another one",
     ],
     "--budget 4000000000 --items auto": [
-        "may take 6.2 GB: budget 4.0 GB, 16,777,216 items",
+        "may take 6.5 GB: budget 4.0 GB, 16,777,216 items, buffers 268.4 MB",
         "16,777,216 items of 120 bytes fill 3.1 GB of 4.0 GB",
     ],
-    "--budget 18400 --items 100": ["may take 0.0 MB: budget 0.0 MB, 100 items"],
-    "--budget 18401 --items 100": ["may take 0.0 MB: budget 0.0 MB, 100 items", "100 items of 120 bytes fill 0.0 MB of 0.0 MB"],
+    "--budget 18400 --items 100": ["may take 306.2 MB: budget 0.0 MB, 100 items, buffers 268.4 MB"],
+    "--budget 18401 --items 100": [
+        "may take 306.2 MB: budget 0.0 MB, 100 items, buffers 268.4 MB",
+        "100 items of 120 bytes fill 0.0 MB of 0.0 MB",
+    ],
 }
 
 
@@ -246,8 +255,10 @@ def how_much_memory_is_said_at_the_start():
             want((words, said_at_the_start(words, form)), (words, lines))
         want((words, said_at_the_start(words)), (words, []))
     limits = [(resource.RLIMIT_AS, 2_500_000_000)]
-    want(said_at_the_start("--budget 3G", "--log", limits)[0], "may take 3.5 GB: budget 3.2 GB, 65,536 items; limit 2.5 GB (ulimit -v)")
-    want(said_at_the_start("--budget 2G", "--log", limits)[0], "may take 2.3 GB: budget 2.1 GB, 65,536 items")
+    told = "may take 3.8 GB: budget 3.2 GB, 65,536 items, buffers 268.4 MB; limit 2.5 GB (ulimit -v)"
+    want(said_at_the_start("--budget 3G", "--log", limits)[0], told)
+    told = "may take 2.4 GB: budget 2.1 GB, 65,536 items, buffers 67.1 MB"
+    want(said_at_the_start("--budget 2G --buffers 64M", "--log", limits)[0], told)
 
 
 def said_at_the_start(words, form="", limits=()):
@@ -318,7 +329,7 @@ def too_large_an_answer_is_refused():
         (2_000_000, b"gat -1 k k\r\n"),
         (268_435_456, b"gat -1" + keys + b"\r\n"),
     ):
-        with start(f"--answer {answer}") as server, server.connected() as other:
+        with start(f"--answer {answer} --buffers 1G") as server, server.connected() as other:
             asked(other, b"set k 0 0 1000000\r\n" + VALUE + b"\r\n", b"STORED\r\n")
             before = settles(server.memory)
             for cut in (0, 1, len(asks) // 2, len(asks) - 1, 2):
@@ -338,6 +349,95 @@ def too_large_an_answer_is_refused():
             want_at_most(settles(server.memory) - before, 4 * len(ANSWER))
 
 
+def an_answer_leaves_room_for_its_request():
+    """An answer may have no more bytes than --buffers less 2 MiB, whatever --answer says."""
+    with start("--buffers 4M") as server, server.connected() as other:
+        asked(other, b"set k 0 0 1000000\r\n" + VALUE + b"\r\n", b"STORED\r\n")
+        with server.connected() as client:
+            client.sendall(b"gat 0 k k\r\nmn\r\n")
+            want(received(client, 2 * (len(ANSWER) - 5) + 9) == ANSWER[:-5] * 2 + b"END\r\nMN\r\n", True)
+        with server.connected() as client:
+            client.sendall(b"gat 0 k k k\r\n")
+            want(received_to_the_end(client), b"")
+        want(lines_said(server), ["mc_serverd: request refused: its answer may have more than 2097152 bytes"])
+
+
+def keeper(server):
+    """A client that asks for thirteen large values and reads none, once the server keeps them for it."""
+    client = server.connected()
+    client.sendall(b"get" + b" k" * 13 + b"\r\n")
+    time.sleep(0.5)
+    return client
+
+
+def who_keeps_memory_is_closed():
+    """While one waits for memory, another that keeps much and takes nothing is closed after some seconds, which is reported with its address. Small
+    requests go on meanwhile, and so do those for a single value."""
+    with start("--buffers 16M") as server, server.connected() as other, server.connected() as small:
+        asked(small, b"set k 0 0 1000000\r\n" + VALUE + b"\r\n", b"STORED\r\n")
+        with keeper(server) as gone:
+            address = "%s:%d" % gone.getsockname()
+            begun = time.monotonic()
+            other.sendall(b"get" + b" k" * 9 + b"\r\n")
+            while not select.select([other], [], [], 0)[0] and time.monotonic() - begun < 3:
+                asked(small, b"set s 0 0 3\r\nabc\r\nget s\r\n", b"STORED\r\nVALUE s 0 3\r\nabc\r\nEND\r\n")
+                asked(small, b"get k\r\n", ANSWER)
+            want(time.monotonic() - begun >= 3, True)
+            want(received(other, len(ITEM) * 9 + 5) == ITEM * 9 + b"END\r\n", True)
+            want(3 <= time.monotonic() - begun <= 9, True)
+            line = lines_said(server)[0]
+            told = rf"mc_serverd: {re.escape(address)} closed: it kept [1-9]\d{{6,7}} bytes while the memory for clients was used up"
+            want((line, bool(re.fullmatch(told, line))), (line, True))
+        is_served(other)
+
+
+def an_answer_waits_for_memory():
+    """A large answer waits until another client has taken its own, and then it comes whole."""
+    with start("--buffers 16M") as server, server.connected() as other, server.connected() as small:
+        asked(small, b"set k 0 0 1000000\r\n" + VALUE + b"\r\n", b"STORED\r\n")
+        with keeper(server) as slow:
+            other.sendall(b"get" + b" k" * 9 + b"\r\nmn\r\n")
+            want(select.select([other], [], [], 1)[0], [])
+            is_served(small)
+            want(received(slow, 13 * len(ITEM) + 5) == ITEM * 13 + b"END\r\n", True)
+            want(received(other, 9 * len(ITEM) + 9) == ITEM * 9 + b"END\r\nMN\r\n", True)
+            is_served(slow)
+
+
+def blocks_that_take_all_memory_go_on():
+    """Ten clients have sent a half of a large value each, which is more than is kept for all. Each is stored once it sends the other half, whichever is
+    the first. Bytes for which a socket had no room are sent again by the system, after up to some seconds."""
+    for order in (1, -1):
+        with start("--buffers 4M") as server, contextlib.ExitStack() as stack:
+            clients = [stack.enter_context(server.connected()) for _ in range(10)]
+            for number, client in enumerate(clients):
+                client.settimeout(3 * PATIENCE)
+                client.sendall(b"set k%d 0 0 1000000\r\n" % number + VALUE[:600_000])
+            time.sleep(0.5)
+            for client in clients[::order]:
+                client.sendall(VALUE[600_000:] + b"\r\n")
+            for client in clients:
+                want(received(client, 8), b"STORED\r\n")
+
+
+def blocks_with_their_memory_go_on():
+    """Clients of whose large values all but the end has arrived fill the room. Each is stored once it sends the end, though another waits for room and
+    is silent."""
+    with start("--buffers 4M") as server, contextlib.ExitStack() as stack:
+        clients = [stack.enter_context(server.connected()) for _ in range(4)]
+        for number, client in enumerate(clients):
+            client.sendall(b"set k%d 0 0 1000000\r\n" % number + VALUE[:999_000])
+            time.sleep(0.2)
+        waits = stack.enter_context(server.connected())
+        waits.sendall(b"set k 0 0 1000000\r\n" + VALUE[:900_000])
+        time.sleep(0.2)
+        begun = time.monotonic()
+        for client in clients:
+            asked(client, VALUE[999_000:] + b"\r\n", b"STORED\r\n")
+        want_at_most(time.monotonic() - begun, 1)
+        asked(waits, VALUE[900_000:] + b"\r\n", b"STORED\r\n")
+
+
 def a_report_is_said():
     """Each second: what was done, and what there is."""
     with start("--report 1 --items 3", [(resource.RLIMIT_NOFILE, 2_000)]) as server:
@@ -355,6 +455,7 @@ def a_report_is_said():
         uptime = int(fields.pop("uptime"))
         want(1 <= uptime <= 8, True)
         wanted = dict(connections=1, accepted=2, refused=0, requests=11, hits=3, misses=2, stores=5, evictions=2, expired=1)
+        want(0 <= int(fields.pop("buffered")) <= 65_536, True)
         wanted |= dict(items=2, bytes=2 * 66, read=len(sent) + 9, written=len(answers) + 15, no_memory=0)
         want(fields, {key: str(number) for key, number in wanted.items()})
 
@@ -730,6 +831,11 @@ def checks():
         more_than_65535_items_are_stored,
         a_slow_reader_is_waited_for,
         too_large_an_answer_is_refused,
+        an_answer_leaves_room_for_its_request,
+        who_keeps_memory_is_closed,
+        an_answer_waits_for_memory,
+        blocks_that_take_all_memory_go_on,
+        blocks_with_their_memory_go_on,
         a_report_is_said,
         idle_connections_hold_little,
         no_memory_closes_connections_alone,

@@ -170,7 +170,8 @@ NO_SIZES = [
 
 def wrong_sizes_are_refused(program, option, least, words=(), most=1024):
     """A word that is no number of bytes, with K, M or G or without, or one outside the limits, whose upper one is given in G."""
-    why = f"invalid value for '--{option} <bytes>': neither in {least}..={most << 30} nor a number of K, M or G up to {most}G"
+    sizes = f"from {least >> 20}M to {most}G" if least >> 20 else f"up to {most}G"
+    why = f"invalid value for '--{option} <bytes>': neither in {least}..={most << 30} nor a number of K, M or G {sizes}"
     for word in (*NO_SIZES, *words):
         if least == 0 and word in ("0", "0G"):
             continue

@@ -1,7 +1,7 @@
 -- The figures that a program shows.
 use Rattle.std.specs.Prelude.{ℕ, ◌+◌, ◌%◌, ◌^◌, Bool, true, false, List, [], ◌∷◌, ◌++◌, Option, Some, None}
 use Rattle.mc_admin.specs.declared.names.Name.{Name}
-use Rattle.mc_admin.specs.declared.names.Name.TheVariants.{Up, Version as VersionName, Uptime, Time, Pid, Threads, CurrConnections, MaxConnections, TotalConnections, RejectedConnections, Requests, BytesRead, BytesWritten, Resident, CmdGet, GetHits, GetMisses, CmdSet, CurrItems, TotalItems, Bytes, LimitMaxbytes, LimitItems, Evictions, Expired, NoMemory, Missed, ServerUp, ServerLosses, ServerSent, ServerLost, ServerWaiting}
+use Rattle.mc_admin.specs.declared.names.Name.TheVariants.{Up, Version as VersionName, Uptime, Time, Pid, Threads, CurrConnections, MaxConnections, TotalConnections, RejectedConnections, Requests, BytesRead, BytesWritten, Buffered, Resident, CmdGet, GetHits, GetMisses, CmdSet, CurrItems, TotalItems, Bytes, LimitMaxbytes, LimitItems, Evictions, Expired, NoMemory, Missed, ServerUp, ServerLosses, ServerSent, ServerLost, ServerWaiting}
 use Rattle.mc_admin.specs.declared.figures.Figure.{Figure}
 use Rattle.mc_admin.specs.declared.figures.Value.TheVariants.{Number, Version}
 use Rattle.mc_admin.specs.declared.lists.ClientFigures.{ClientFigures}
@@ -31,7 +31,7 @@ process_figures c =
 unfoldable pub traffic_figures : ClientFigures → List Figure
 traffic_figures c =
     own CurrConnections c.connected ∷ own MaxConnections c.most ∷ own TotalConnections c.accepted
-    ∷ own RejectedConnections c.refused ∷ own Requests c.requests ∷ own BytesRead c.read ∷ own BytesWritten c.written ∷ []
+    ∷ own RejectedConnections c.refused ∷ own Requests c.requests ∷ own BytesRead c.read ∷ own BytesWritten c.written ∷ own Buffered c.buffered ∷ []
 
 -- the figures of the clients that a program serves
 abbrev pub client_figures : ClientFigures → List Figure

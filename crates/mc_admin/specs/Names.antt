@@ -1,7 +1,7 @@
 -- The names of figures: in memcached's statistics, and as metrics of Prometheus.
 use Rattle.std.specs.Prelude.{ℕ, List, [], codes}
 use Rattle.mc_admin.specs.declared.names.Name.{Name}
-use Rattle.mc_admin.specs.declared.names.Name.TheVariants.{Up, Version, Uptime, Time, Pid, Threads, CurrConnections, MaxConnections, TotalConnections, RejectedConnections, Requests, BytesRead, BytesWritten, Resident, CmdGet, GetHits, GetMisses, CmdSet, CurrItems, TotalItems, Bytes, LimitMaxbytes, LimitItems, Evictions, Expired, NoMemory, Missed, ServerUp, ServerLosses, ServerSent, ServerLost, ServerWaiting}
+use Rattle.mc_admin.specs.declared.names.Name.TheVariants.{Up, Version, Uptime, Time, Pid, Threads, CurrConnections, MaxConnections, TotalConnections, RejectedConnections, Requests, BytesRead, BytesWritten, Buffered, Resident, CmdGet, GetHits, GetMisses, CmdSet, CurrItems, TotalItems, Bytes, LimitMaxbytes, LimitItems, Evictions, Expired, NoMemory, Missed, ServerUp, ServerLosses, ServerSent, ServerLost, ServerWaiting}
 
 -- the name of a figure among the statistics
 -- source: memcached's protocol.txt, "General-purpose statistics", if that has it; of the others this project's own
@@ -19,6 +19,7 @@ stat_name RejectedConnections = codes "rejected_connections"
 stat_name Requests = codes "requests"
 stat_name BytesRead = codes "bytes_read"
 stat_name BytesWritten = codes "bytes_written"
+stat_name Buffered = codes "buffered_bytes"
 stat_name Resident = codes "resident_bytes"
 stat_name CmdGet = codes "cmd_get"
 stat_name GetHits = codes "get_hits"
@@ -55,6 +56,7 @@ metric_name RejectedConnections = codes "memcached_connections_rejected_total"
 metric_name Requests = codes "wiersbol_requests_total"
 metric_name BytesRead = codes "memcached_read_bytes_total"
 metric_name BytesWritten = codes "memcached_written_bytes_total"
+metric_name Buffered = codes "wiersbol_buffered_bytes"
 metric_name Resident = codes "process_resident_memory_bytes"
 metric_name CmdGet = codes "wiersbol_retrievals_total"
 metric_name GetHits = codes "memcached_commands_total"
@@ -95,6 +97,7 @@ kind_of Pid = codes "gauge"
 kind_of Threads = codes "gauge"
 kind_of CurrConnections = codes "gauge"
 kind_of MaxConnections = codes "gauge"
+kind_of Buffered = codes "gauge"
 kind_of Resident = codes "gauge"
 kind_of CurrItems = codes "gauge"
 kind_of Bytes = codes "gauge"
@@ -119,6 +122,7 @@ help_of RejectedConnections = codes "Clients that were closed as they came."
 help_of Requests = codes "Requests and faulty lines that were taken."
 help_of BytesRead = codes "Bytes from clients."
 help_of BytesWritten = codes "Bytes to clients."
+help_of Buffered = codes "Bytes that are kept for clients, items not among them."
 help_of Resident = codes "The memory of the process, in bytes."
 help_of CmdGet = codes "Keys of retrievals."
 help_of GetHits = codes "Keys of retrievals, by outcome, and values that were stored."

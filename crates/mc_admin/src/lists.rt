@@ -29,6 +29,8 @@ pub struct ClientFigures {
     pub read: u64,
     /// Bytes to clients.
     pub written: u64,
+    /// Bytes that are kept for clients, items not among them.
+    pub buffered: u64,
     /// The memory of the process, in bytes; none if the system does not say.
     pub resident: Option<u64>,
 }
@@ -109,7 +111,7 @@ fn process_figures(clients: &ClientFigures) -> [Figure<'static>; 6]
 
 /// Returns the figures of its clients, and of their traffic.
 #[tactic(auto, unfolding(crate::specs::Lists::traffic_figures))]
-fn traffic_figures(clients: &ClientFigures) -> [Figure<'static>; 7]
+fn traffic_figures(clients: &ClientFigures) -> [Figure<'static>; 8]
     ensures { result ≡ traffic_figures clients.now }
 {
     [
@@ -120,6 +122,7 @@ fn traffic_figures(clients: &ClientFigures) -> [Figure<'static>; 7]
         own(Name::Requests, clients.requests),
         own(Name::BytesRead, clients.read),
         own(Name::BytesWritten, clients.written),
+        own(Name::Buffered, clients.buffered),
     ]
 }
 

@@ -31,6 +31,8 @@ pub enum Name {
     BytesRead,
     /// Bytes to clients.
     BytesWritten,
+    /// Bytes that are kept for clients, items not among them.
+    Buffered,
     /// The memory of the process, in bytes.
     Resident,
     /// Keys of retrievals.
@@ -91,6 +93,7 @@ impl Name {
             Name::Requests => b"requests",
             Name::BytesRead => b"bytes_read",
             Name::BytesWritten => b"bytes_written",
+            Name::Buffered => b"buffered_bytes",
             Name::Resident => b"resident_bytes",
             Name::CmdGet => b"cmd_get",
             Name::GetHits => b"get_hits",
@@ -132,6 +135,7 @@ impl Name {
             Name::Requests => b"wiersbol_requests_total",
             Name::BytesRead => b"memcached_read_bytes_total",
             Name::BytesWritten => b"memcached_written_bytes_total",
+            Name::Buffered => b"wiersbol_buffered_bytes",
             Name::Resident => b"process_resident_memory_bytes",
             Name::CmdGet => b"wiersbol_retrievals_total",
             Name::GetHits => b"memcached_commands_total",
@@ -182,6 +186,7 @@ impl Name {
             Name::Threads => b"gauge",
             Name::CurrConnections => b"gauge",
             Name::MaxConnections => b"gauge",
+            Name::Buffered => b"gauge",
             Name::Resident => b"gauge",
             Name::CurrItems => b"gauge",
             Name::Bytes => b"gauge",
@@ -212,6 +217,7 @@ impl Name {
             Name::Requests => b"Requests and faulty lines that were taken.",
             Name::BytesRead => b"Bytes from clients.",
             Name::BytesWritten => b"Bytes to clients.",
+            Name::Buffered => b"Bytes that are kept for clients, items not among them.",
             Name::Resident => b"The memory of the process, in bytes.",
             Name::CmdGet => b"Keys of retrievals.",
             Name::GetHits => b"Keys of retrievals, by outcome, and values that were stored.",

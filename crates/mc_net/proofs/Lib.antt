@@ -3,3 +3,4 @@ pub mod BindingLemmas
 pub mod ListLemmas
 pub mod ListingLemmas
 pub mod ReadyLemmas
+pub mod BufferLemmas

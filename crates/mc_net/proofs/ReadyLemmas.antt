@@ -1,12 +1,14 @@
 -- The queue of the clients that are ready.
-use Rattle.std.proofs.Common.{◌≡◌, ℕ, zero, suc, ◌+◌, ◌<◌, ◌≤◌, ◌==◌, ◌&&◌, ◌||◌, Bool, true, false, not, nat_lt, List, [], ◌∷◌, ◌++◌, length, get_or, inl, inr, slice_set, slice_index_or, replicate, refl, sym, ap, ◌∙◌, append_assoc, arith, if◌then◌else◌}
+use Rattle.std.proofs.Common.{◌≡◌, ℕ, zero, suc, ◌+◌, ◌<◌, ◌≤◌, ◌==◌, ◌&&◌, ◌||◌, Bool, true, false, not, nat_lt, Option, None, Some, IfNone, IfSome, List, [], ◌∷◌, ◌++◌, length, get_or, inl, inr, slice_set, slice_index_or, replicate, refl, sym, ap, ◌∙◌, append_assoc, arith, if◌then◌else◌}
 use Rattle.std.proofs.Math.Bool.{or-false}
 use Rattle.std.proofs.lemmas.Bool.{cases_eq}
 use Rattle.std.proofs.lemmas.Bool.Decides.{nat_tests}
 use Rattle.std.proofs.lemmas.List.{append-nil, get_or-set_other}
 use Rattle.std.proofs.lemmas.Grind.{get_or-set_at}
+use Rattle.mc_text.proofs.FieldLemmas.{either}
 use Rattle.mc_net.specs.ReadyFields.{AreMarks}
-use Rattle.mc_net.specs.ReadyQueues.{after_push, after_pushes, are_distinct, has_key, marked, taken}
+use Rattle.std.specs.List.{position, position_or_len, remove}
+use Rattle.mc_net.specs.ReadyQueues.{after_push, after_pushes, are_distinct, has_key, marked, taken, without}
 
 -- pushes leave what is in front
 push_by : (b : Bool) (key : ℕ) (front back : List ℕ) → (behind : List ℕ) × ((if b then (front ++ back) ++ key ∷ [] else front ++ back) ≡ front ++ behind)
@@ -112,3 +114,97 @@ no_marks (suc count) (suc key) = no_marks count key
 pub none_marked : (count : ℕ) → marked (replicate count false) ≡ 0
 none_marked zero = refl
 none_marked (suc count) = omega (arith, none_marked count)
+
+-- a key that is removed
+pub has_without : (key other : ℕ) (keys : List ℕ) → are_distinct keys ≡ true → has_key other (without key keys) ≡ (has_key other keys && not (other == key))
+has_without key other [] are = refl
+has_without key other (k ∷ rest) are = elim (either (k == key)) [
+  | inl same ↦ grind (arith, nat_tests)
+  | inr another ↦ grind (arith, nat_tests, has_without key other rest)
+]
+
+pub distinct_without : (key : ℕ) (keys : List ℕ) → are_distinct keys ≡ true → are_distinct (without key keys) ≡ true
+distinct_without key [] are = refl
+distinct_without key (k ∷ rest) are = elim (either (k == key)) [
+  | inl same ↦ grind (arith, nat_tests)
+  | inr another ↦ grind (arith, nat_tests, distinct_without key rest, has_without key k rest)
+]
+
+pub marks_without : (marks : List Bool) (keys : List ℕ) (key : ℕ) → AreMarks marks keys → are_distinct keys ≡ true → has_key key keys ≡ true
+    → AreMarks (slice_set marks key false) (without key keys)
+marks_without marks keys key are distinct there = λ other.
+    let inside : key < length marks = inside_of marks key (are key ∙ there) in
+    elim (cases_eq other key) [
+      | inl same ↦ grind (arith, nat_tests, has_without key other keys, get_or-set_at marks key other false false same inside)
+      | inr another ↦ grind (arith, nat_tests, has_without key other keys, get_or-set_other marks key other false false another, are other)
+    ]
+
+-- where a key is
+remove_past : (k : ℕ) (rest : List ℕ) (n m : ℕ) → m ≡ suc n → remove (k ∷ rest) m ≡ k ∷ remove rest n
+remove_past k rest n m is = rw is refl
+
+place_past : (key k : ℕ) (rest : List ℕ) → (k == key) ≡ false
+    → position_or_len (λ other. other == key) (k ∷ rest) ≡ suc (position_or_len (λ other. other == key) rest)
+place_past key k rest another = rw another (omega arith)
+
+place_first : (key k : ℕ) (rest : List ℕ) → (k == key) ≡ true → position_or_len (λ other. other == key) (k ∷ rest) ≡ 0
+place_first key k rest same = rw same refl
+
+found_in : (key : ℕ) (keys : List ℕ) → position_or_len (λ other. other == key) keys < length keys
+    → (remove keys (position_or_len (λ other. other == key) keys) ≡ without key keys) × (has_key key keys ≡ true)
+found_in key [] inside = absurd (omega (arith, inside))
+found_in key (k ∷ rest) inside = elim (either (k == key)) [
+  | inl same ↦ rw same (refl, refl)
+  | inr another ↦
+      let past = place_past key k rest another in
+      let more = found_in key rest (omega (arith, past, inside)) in
+      let left : without key (k ∷ rest) ≡ k ∷ without key rest = rw another refl in
+      let has : has_key key (k ∷ rest) ≡ has_key key rest = rw another refl in
+      (remove_past k rest _ _ past ∙ ap (λ (keys : List ℕ). k ∷ keys) more.0 ∙ sym left, has ∙ more.1)
+]
+
+absent_in : (key : ℕ) (keys : List ℕ) → length keys ≤ position_or_len (λ other. other == key) keys → has_key key keys ≡ false
+absent_in key [] past = refl
+absent_in key (k ∷ rest) past = elim (either (k == key)) [
+  | inl same ↦ absurd (omega (arith, past, place_first key k rest same))
+  | inr another ↦
+      let has : has_key key (k ∷ rest) ≡ has_key key rest = rw another refl in
+      has ∙ absent_in key rest (omega (arith, past, place_past key k rest another))
+]
+
+pub place_found : (key place : ℕ) (keys : List ℕ) → Some place ≡ position (λ other. other == key) keys
+    → (place < length keys) × (remove keys place ≡ without key keys) × (has_key key keys ≡ true)
+place_found key place keys is = elim (either (nat_lt (position_or_len (λ other. other == key) keys) (length keys))) [
+  | inl inside ↦
+      let same : Some place ≡ Some (position_or_len (λ other. other == key) keys) = rw inside at is in
+      let at : place ≡ position_or_len (λ other. other == key) keys = cc in
+      let below : position_or_len (λ other. other == key) keys < length keys = grind (arith, nat_tests) in
+      let found = found_in key keys below in
+      rw at (below, found.0, found.1)
+  | inr past ↦ let clash : Some place ≡ None = rw past at is in absurd cc
+]
+
+pub place_absent : (key : ℕ) (keys : List ℕ) → None ≡ position (λ other. other == key) keys → has_key key keys ≡ false
+place_absent key keys is = elim (either (nat_lt (position_or_len (λ other. other == key) keys) (length keys))) [
+  | inl inside ↦ let clash : None ≡ Some (position_or_len (λ other. other == key) keys) = rw inside at is in absurd cc
+  | inr past ↦ absent_in key keys (grind (arith, nat_tests))
+]
+
+pub if_found : (key : ℕ) (keys : List ℕ) (found : Option ℕ) → found ≡ position (λ other. other == key) keys
+    → IfSome found (λ place. remove keys place ≡ without key keys)
+if_found key keys None is = tt
+if_found key keys (Some place) is = (place_found key place keys is).1
+
+pub if_there : (key : ℕ) (keys : List ℕ) (found : Option ℕ) → found ≡ position (λ other. other == key) keys
+    → IfSome found (λ place. has_key key keys ≡ true)
+if_there key keys None is = tt
+if_there key keys (Some place) is = (place_found key place keys is).2
+
+pub if_absent : (key : ℕ) (keys : List ℕ) (found : Option ℕ) → found ≡ position (λ other. other == key) keys
+    → IfNone found (has_key key keys ≡ false)
+if_absent key keys None is = place_absent key keys is
+if_absent key keys (Some place) is = tt
+
+pub without_absent : (key : ℕ) (keys : List ℕ) → has_key key keys ≡ false → without key keys ≡ keys
+without_absent key [] absent = refl
+without_absent key (k ∷ rest) absent = grind (arith, nat_tests, without_absent key rest)

@@ -8,3 +8,6 @@ pub mod ReadyQueues
 pub mod ReadyFields
 pub mod Lists
 pub mod Listings
+pub mod Buffers
+pub mod Shortages
+pub mod Holdings

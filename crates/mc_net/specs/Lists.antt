@@ -4,18 +4,22 @@ use Rattle.slab.specs.Slab.{Slab, get}
 use Rattle.mc_admin.specs.declared.conns.Conn.{Conn}
 use Rattle.mc_net.specs.declared.clients.ClientSlot.{ClientSlot}
 use Rattle.mc_net.specs.declared.conns.Known.{Known}
-use Rattle.mc_net.specs.declared.conns.Owed.{Owed}
-use Rattle.mc_net.specs.declared.conns.Owed.TheVariants.{Answers, Replies}
+use Rattle.mc_net.specs.declared.conns.Awaits.{Awaits}
+use Rattle.mc_net.specs.declared.conns.Awaits.TheVariants.{Answers, Replies}
 
 -- a count after another has gone from one number to the next: each wraps to 0 after 2^64 - 1
 abbrev pub count_after : ℕ → ℕ → ℕ → ℕ
 count_after count before after = (count + (after + (2 ^ 64 - before)) % 2 ^ 64) % 2 ^ 64
 
+-- how far a count has gone from one number to the next, if it wraps to 0 after 2^64 - 1
+abbrev pub within_word : ℕ → ℕ → ℕ
+within_word before after = (after + (2 ^ 64 - before)) % 2 ^ 64
+
 -- what is known of a client at a place: for how many seconds it was quiet, since when it is connected, how much was read and written
 module _ {K : Type 0} where
   abbrev pub known_of : ℕ → ℕ → Bool → ClientSlot K → Known
-  known_of moment place owed slot =
-      record { place = place; is_owed = owed; quiet = moment - slot.used; age = moment - slot.since; read = slot.read; written = slot.written }
+  known_of moment place awaits slot =
+      record { place = place; has_pending = awaits; quiet = moment - slot.used; age = moment - slot.since; read = slot.read; written = slot.written }
 
 -- what is listed of a client beside its addresses and its state
 pub record Shown : Type 0 where
@@ -36,13 +40,13 @@ conn_state conn = conn.state.now
 
 -- what a client with pending answers waits for
 -- source: memcached's doc/protocol.txt, "Connection statistics"
-abbrev pub owed_state : Owed → List ℕ
-owed_state Answers = codes "conn_mwrite"
-owed_state Replies = codes "conn_io_queue"
+abbrev pub awaits_state : Awaits → List ℕ
+awaits_state Answers = codes "conn_mwrite"
+awaits_state Replies = codes "conn_io_queue"
 
-abbrev pub state_of : Bool → Owed → List ℕ
-state_of true owed = owed_state owed
-state_of false owed = codes "conn_waiting"
+abbrev pub state_of : Bool → Awaits → List ℕ
+state_of true awaits = awaits_state awaits
+state_of false awaits = codes "conn_waiting"
 
 module _ {K : Type 0} where
   -- the client of a place, if there is one, before others

@@ -20,6 +20,11 @@ are_distinct (key ∷ rest) = not (has_key key rest) && are_distinct rest
 abbrev pub after_push : ℕ → ℕ → List ℕ → List ℕ
 after_push most key keys = if nat_lt key most && not (has_key key keys) then keys ++ key ∷ [] else keys
 
+-- the keys without the first that is this one
+abbrev pub without : ℕ → List ℕ → List ℕ
+without key [] = []
+without key (other ∷ rest) = if other == key then rest else other ∷ without key rest
+
 -- keys that become ready in sequence
 abbrev pub after_pushes : ℕ → List ℕ → List ℕ → List ℕ
 after_pushes most [] keys = keys

@@ -11,6 +11,8 @@ pub enum AfterPump {
     GoOn,
     /// It waits until it has an event.
     Wait,
+    /// It waits until it has an event, or may keep this number of bytes.
+    Short(u64),
     /// It is closed.
     Close,
     /// It is closed as a stranger that speaks HTTP.

@@ -1,16 +1,21 @@
 //! The clients of a host: which of them go on, and which are idle.
 ghost use Rattle.std.specs.Prelude.{◌≡◌, ◌-◌, ◌<◌, ◌^◌, IfOk, drop, map, take};
-ghost use Rattle.mc_net.specs.Lists.{all_shown, count_after, known_of, place_of, shown_of};
+ghost use Rattle.mc_net.specs.Buffers.{kept_in};
+ghost use Rattle.mc_net.specs.Holdings.{counted_move};
+ghost use Rattle.mc_net.specs.Lists.{all_shown, count_after, known_of, place_of, shown_of, within_word};
 
 use crate::acceptors::Backlog;
-use crate::after_pumps::AfterPump;
-use crate::conns::{Known, LIST_LEN, Listed, Owed, conn_of};
+use crate::buffers::{Buffers, Right};
+use crate::closings::Closing;
+use crate::conns::{Awaits, Known, LIST_LEN, Listed, conn_of};
+use crate::crowds::Claim;
 use crate::handlers::{Client, Handler};
+use crate::holdings::Holding;
 use crate::inputs::Readiness;
-use crate::limits::KEPT_ROOM;
 use crate::openings::{Opening, Stranger};
 use crate::ready_queues::ReadyQueue;
 use crate::reports::Report;
+use crate::shortages::Shortage;
 use crate::strangers::{Refusal, opening};
 use mc_program::{EprintSeldom, OncePerSecond, Said, Ticker, earlier};
 use mc_stream::IoStats;
@@ -23,8 +28,8 @@ use std::mem;
 
 /// A client, and what is known of its rounds.
 #[derive(Drop)]
-struct ClientSlot<K> {
-    client: Client<K>,
+pub(crate) struct ClientSlot<K> {
+    pub(crate) client: Client<K>,
     /// Whether its first bytes are known not to be a stranger's.
     known: bool,
     /// Whether it has had an event since the last sweep.
@@ -37,30 +42,36 @@ struct ClientSlot<K> {
     read: u64,
     /// Bytes that were written to it.
     written: u64,
+    /// What is kept for it, and what it did while others waited for room.
+    pub(crate) holding: Holding,
 }
 
 impl<K: Drop> ClientSlot<K> {
     /// Records its traffic, from that of all clients before and after its turn.
     #[inline(always)]
-    fn pass(&mut self, before: IoStats, after: IoStats)
+    pub(crate) fn pass(&mut self, before: IoStats, after: IoStats)
         ensures { self.new ≡ record self.old {
           read = count_after self.old.read before.read after.read;
           written = count_after self.old.written before.written after.written;
+          holding = record self.old.holding {
+            moved = counted_move self.old.holding.moved (within_word before.read after.read) (within_word before.written after.written);
+          };
         } }
     {
         let read = after.read.wrapping_sub(before.read);
         let written = after.written.wrapping_sub(before.written);
         self.read = self.read.wrapping_add(read);
         self.written = self.written.wrapping_add(written);
+        self.holding.moves(read, written);
     }
 
     /// Returns what is known of it at a moment, at a place.
-    fn known(&self, place: usize, is_owed: bool, moment: u64) -> Known
-        ensures { result ≡ known_of moment place is_owed self.now }
+    fn known(&self, place: usize, has_pending: bool, moment: u64) -> Known
+        ensures { result ≡ known_of moment place has_pending self.now }
     {
         Known {
             place,
-            is_owed,
+            has_pending,
             quiet: moment.saturating_sub(self.used),
             age: moment.saturating_sub(self.since),
             read: self.read,
@@ -72,11 +83,23 @@ impl<K: Drop> ClientSlot<K> {
 /// The clients of a host. The token of a client's socket is its key.
 #[derive(Drop)]
 pub struct Clients<K: Drop> {
-    slots: Slab<ClientSlot<K>>,
+    pub(crate) slots: Slab<ClientSlot<K>>,
     /// The most clients.
-    most: usize,
+    pub(crate) most: usize,
     /// The keys of the clients that are ready, in the order in which they are served. That of a client that was closed may be among them.
-    ready: ReadyQueue,
+    pub(crate) ready: ReadyQueue,
+    /// What is kept for all of them.
+    pub(crate) buffers: Buffers,
+    /// Those that wait for room.
+    pub(crate) shortage: Shortage,
+    /// Whether one that waits may go on: something was freed, or one has begun to wait, since it was looked whether one may.
+    pub(crate) has_freed: bool,
+    /// Whether the memory of empty buffers was freed since the last sweep, for one that waits.
+    pub(crate) squeezed: bool,
+    /// What is kept free for the first one that must wait, if any.
+    pub(crate) claim: Option<Claim>,
+    /// For how many sweeps the client that is ahead has been so while others waited.
+    pub(crate) lead_sweeps: u8,
     /// Whether a client was busy since the last sweep.
     busy: bool,
     /// The seconds after which a client is closed that sent nothing and has no pending answer; 0 for never.
@@ -87,6 +110,8 @@ pub struct Clients<K: Drop> {
     refused: u64,
     /// The strangers that were turned away and are not yet reported.
     turned_away: OncePerSecond<Refusal>,
+    /// The clients that were closed since they kept what others waited for, and are not yet reported.
+    pub(crate) crowded_out: OncePerSecond<Closing>,
     /// When the next line may say that no more are accepted, since the system gives no connection.
     told_refused: Ticker,
 }
@@ -95,10 +120,17 @@ pub struct Clients<K: Drop> {
 const REFUSED_EVERY: u64 = 60;
 
 impl<K: Default + Drop> Clients<K> {
-    /// Makes an empty list, with room for `most` clients. A client that is idle for longer than `idle` seconds is closed; 0 for never.
-    pub fn new(alloc: Global, most: usize, idle: u64) -> Result<Self, AllocError> {
+    /// Makes an empty list, with room for `most` clients. A client that is idle for longer than `idle` seconds is closed; 0 for never. At most
+    /// `buffers` bytes are kept for all of them, except for their shares and for the one that is ahead.
+    pub fn new(alloc: Global, most: usize, idle: u64, buffers: u64) -> Result<Self, AllocError> {
         Ok(Clients {
             ready: ReadyQueue::new(alloc, most)?,
+            buffers: Buffers::new(buffers),
+            shortage: Shortage::new(alloc, most)?,
+            has_freed: false,
+            squeezed: false,
+            claim: None,
+            lead_sweeps: 0,
             slots: Slab::with_capacity(alloc, most)?,
             most,
             busy: false,
@@ -106,6 +138,7 @@ impl<K: Default + Drop> Clients<K> {
             due: None,
             refused: 0,
             turned_away: OncePerSecond::new(),
+            crowded_out: OncePerSecond::new(),
             told_refused: Ticker {
                 every: REFUSED_EVERY,
                 next: 0,
@@ -130,18 +163,26 @@ impl<K: Default + Drop> Clients<K> {
             connections: self.slots.len(),
             accepted,
             refused: self.refused,
+            buffered: self.buffers.kept(),
             tally,
         }
     }
 
-    /// Returns whether one is ready, so that it is served without an event.
-    pub fn goes_on(&self) -> bool {
-        self.ready.len() > 0
+    /// Returns how many bytes are kept, for clients and for others.
+    pub fn kept(&self) -> u64
+        ensures { result ≡ kept_in self.now.buffers }
+    {
+        self.buffers.kept()
     }
 
-    /// Returns whether a sweep may have work.
+    /// Returns whether one is ready, or may have become so since others keep less, so that it is served without an event.
+    pub fn goes_on(&self) -> bool {
+        self.ready.len() > 0 || (self.has_freed && self.shortage.len() > 0)
+    }
+
+    /// Returns whether a sweep may have work: a client was busy, or one waits for room.
     pub fn is_busy(&self) -> bool {
-        self.busy
+        self.busy || self.shortage.len() > 0
     }
 
     /// Returns the second in which one may have been idle for too long, at the earliest.
@@ -167,7 +208,7 @@ impl<K: Default + Drop> Clients<K> {
         alloc: Global,
         from: usize,
         moment: u64,
-        owed: Owed,
+        awaits: Awaits,
     ) -> Result<Listed, AllocError>
         ensures conns { IfOk result (λ listed. map shown_of listed.conns.items
             ≡ take LIST_LEN (all_shown self.now.slots moment from (self.now.most - from))) }
@@ -185,8 +226,8 @@ impl<K: Default + Drop> Clients<K> {
                     next: Some(place),
                 });
             }
-            let known = slot.known(place, handler.owes(slot.client.number), moment);
-            conns.push(conn_of(alloc, &slot.client.stream, known, owed)?)?;
+            let known = slot.known(place, handler.has_pending(slot.client.number), moment);
+            conns.push(conn_of(alloc, &slot.client.stream, known, awaits)?)?;
         }
         Ok(Listed { conns, next: None })
     }
@@ -240,6 +281,7 @@ impl<K: Default + Drop> Clients<K> {
             since: moment,
             read: 0,
             written: 0,
+            holding: Holding::new(),
         };
         if registered.is_err() {
             handler.end(number);
@@ -250,6 +292,7 @@ impl<K: Default + Drop> Clients<K> {
             handler.end(number);
             return false;
         }
+        self.recount(handler, key);
         true
     }
 
@@ -273,6 +316,9 @@ impl<K: Default + Drop> Clients<K> {
                 break;
             };
             self.serve_next(handler, key, moment);
+        }
+        if self.has_freed {
+            self.ready_waiting(handler);
         }
     }
 
@@ -314,33 +360,51 @@ impl<K: Default + Drop> Clients<K> {
         }
         self.busy = true;
         slot.busy = true;
-        let before = handler.tally();
-        let step = handler.serve(&mut slot.client, moment);
-        slot.pass(before, handler.tally());
-        match step {
-            AfterPump::GoOn => self.ready.push(key),
-            AfterPump::Wait => handler.shrink_if_idle(slot.client.number, KEPT_ROOM),
-            AfterPump::Close => self.close(handler, key),
-            AfterPump::TurnAway => self.turn_away(handler, key, Stranger::Http),
+        let share = self.share_of(key);
+        if self.shortage.len() == 0 || !self.lacks_room(key, share) {
+            self.serve_within(handler, key, moment, share);
+        } else if self.send(handler, key) {
+            let kept = self.kept_by(key);
+            let share = self.buffers.share(kept, Right::Behind);
+            self.serve_within(handler, key, moment, share);
         }
     }
 
+    /// Serves the client of a key, which may keep `share` bytes.
+    fn serve_within<H: Handler<K>>(&mut self, handler: &mut H, key: usize, moment: u64, share: u64)
+        requires { moment < 2 ^ 63 }
+    {
+        let Some(slot) = self.slots.get_mut(key) else {
+            return;
+        };
+        let before = handler.tally();
+        let step = handler.serve(&mut slot.client, moment, share);
+        slot.pass(before, handler.tally());
+        let number = slot.client.number;
+        self.follow(handler, key, number, step);
+    }
+
     /// Closes a client that is a stranger, and notes it for the next line.
-    fn turn_away<H: Handler<K>>(&mut self, handler: &mut H, key: usize, stranger: Stranger) {
-        let address = self
-            .slots
-            .get(key)
-            .and_then(|slot| slot.client.stream.peer_addr().ok());
+    pub(crate) fn turn_away<H: Handler<K>>(
+        &mut self,
+        handler: &mut H,
+        key: usize,
+        stranger: Stranger,
+    ) {
+        let address = self.address_of(key);
         self.refused = self.refused.saturating_add(1);
         self.turned_away.note(Refusal { stranger, address });
         self.close(handler, key);
     }
 
-    /// Prints on standard error, as the program of a name and at most once a second, that a stranger was turned away, and how many such
-    /// lines were suppressed before.
+    /// Prints on standard error, as the program of a name and each at most once a second, that a stranger was turned away, and that a client was
+    /// closed since it kept what others waited for, and how many such lines were suppressed before.
     pub fn tell<R: EprintSeldom>(&mut self, rt: &R, program: &str, second: u64) {
         if let Some(Said { what, suppressed }) = self.turned_away.take(second) {
             // Best effort: a failed write to standard error must not stop serving.
+            let _ = rt.eprintln_seldom(format_args!("{program}: {what}"), suppressed);
+        }
+        if let Some(Said { what, suppressed }) = self.crowded_out.take(second) {
             let _ = rt.eprintln_seldom(format_args!("{program}: {what}"), suppressed);
         }
     }
@@ -363,12 +427,19 @@ impl<K: Default + Drop> Clients<K> {
     }
 
     /// Frees the memory that is reserved for clients without an event since the last sweep, and closes those that have been idle for too
-    /// long.
+    /// long. While clients wait for room, it frees that of all, and closes those that keep more than their share and make too little progress.
     pub fn sweep<H: Handler<K>>(&mut self, handler: &mut H, moment: u64) {
         self.busy = false;
         self.due = None;
+        let is_short = self.shortage.len() > 0;
+        self.squeezed = is_short;
         for key in 0..self.most {
             self.rest_one(handler, key, moment);
+            self.judge(handler, key, is_short);
+        }
+        if is_short {
+            self.make_room(handler);
+            self.ready_waiting(handler);
         }
     }
 
@@ -378,15 +449,16 @@ impl<K: Default + Drop> Clients<K> {
             return;
         };
         let number = slot.client.number;
-        if mem::replace(&mut slot.busy, false) {
-            self.busy = true;
-        } else {
+        let was_busy = mem::replace(&mut slot.busy, false);
+        self.busy |= was_busy;
+        if !was_busy || self.squeezed {
             handler.shrink_if_idle(number, 0);
         }
-        if handler.owes(number) {
+        if handler.has_pending(number) || self.shortage.has(key) {
             slot.used = moment;
         }
         let used = slot.used;
+        self.recount(handler, key);
         if self.is_too_idle(used, moment) {
             self.close(handler, key);
         } else {
@@ -409,9 +481,16 @@ impl<K: Default + Drop> Clients<K> {
     }
 
     /// Ends the client's session with the handler, and closes its socket.
-    fn close<H: Handler<K>>(&mut self, handler: &mut H, key: usize) {
-        if let Some(slot) = self.slots.try_remove(key) {
-            handler.end(slot.client.number);
+    pub(crate) fn close<H: Handler<K>>(&mut self, handler: &mut H, key: usize) {
+        let Some(slot) = self.slots.try_remove(key) else {
+            return;
+        };
+        handler.end(slot.client.number);
+        self.buffers.change(slot.holding.kept, 0);
+        self.has_freed = true;
+        self.shortage.leave(key);
+        if self.shortage.is_ahead(key) {
+            self.shortage.end_lead();
         }
     }
 }

@@ -1,7 +1,7 @@
 //! The connected clients, as operators see them.
 
 ghost use Rattle.std.specs.Prelude.{◌≡◌, IfOk};
-ghost use Rattle.mc_net.specs.Lists.{conn_state, owed_state, shown_by, shown_of, state_of};
+ghost use Rattle.mc_net.specs.Lists.{conn_state, awaits_state, shown_by, shown_of, state_of};
 
 use mc_admin::{Conn, Part};
 use mio::net::TcpStream;
@@ -20,21 +20,21 @@ const WAITING: &[u8] = b"conn_waiting";
 
 /// What a client with pending answers waits for.
 #[derive(Clone, Copy)]
-pub enum Owed {
+pub enum Awaits {
     /// It has answers to take.
     Answers,
     /// It waits for a server's reply, or has answers to take.
     Replies,
 }
 
-impl Owed {
+impl Awaits {
     /// Returns the state of a client that waits for it, in memcached's words.
     fn state(self) -> &'static [u8]
-        ensures { result.now ≡ owed_state self }
+        ensures { result.now ≡ awaits_state self }
     {
         match self {
-            Owed::Answers => b"conn_mwrite",
-            Owed::Replies => b"conn_io_queue",
+            Awaits::Answers => b"conn_mwrite",
+            Awaits::Replies => b"conn_io_queue",
         }
     }
 }
@@ -64,7 +64,7 @@ pub struct Known {
     /// Its place.
     pub place: usize,
     /// Whether it has pending answers.
-    pub is_owed: bool,
+    pub has_pending: bool,
     /// Seconds since its socket was ready, or since it had pending answers.
     pub quiet: u64,
     /// Seconds since it connected.
@@ -76,21 +76,25 @@ pub struct Known {
 }
 
 /// Returns the entry of a client: what is known of it, and its addresses, which the system is asked for now. If it has pending
-/// answers, `owed` says what it waits for.
+/// answers, `awaits` says what it waits for.
 pub fn conn_of(
     alloc: Global,
     stream: &TcpStream,
     known: Known,
-    owed: Owed,
+    awaits: Awaits,
 ) -> Result<Conn, AllocError>
     ensures shown { IfOk result (λ conn. shown_of conn ≡ shown_by known) }
-    ensures state { IfOk result (λ conn. conn_state conn ≡ state_of known.is_owed owed) }
+    ensures state { IfOk result (λ conn. conn_state conn ≡ state_of known.has_pending awaits) }
 {
     Ok(Conn {
         place: known.place as u64,
         peer: text_of(alloc, stream.peer_addr())?,
         own: text_of(alloc, stream.local_addr())?,
-        state: if known.is_owed { owed.state() } else { WAITING },
+        state: if known.has_pending {
+            awaits.state()
+        } else {
+            WAITING
+        },
         quiet: known.quiet,
         age: known.age,
         read: known.read,

@@ -29,6 +29,19 @@
 //! meanwhile ([`a_round_takes_what_was_there`], [`ReadyQueue::len`]). That each client of these keys is served, and that a
 //! [`Clients::serve`] leaves a client that is ready to its turn, is seen by reading both.
 //!
+//! # Memory
+//!
+//! What is kept for all clients together has a limit ([`Buffers`]). A handler reports what it keeps for a client ([`Handler::held`]), and is given
+//! what it may keep ([`Handler::serve`]): always [`CLIENT_SHARE`] bytes, and all that is free while nobody waits ([`Right`]). A client that needs
+//! more is [`AfterPump::Short`]: it waits in a [`Shortage`] until it may keep as much, and is only sent its pending answers ([`Handler::send`]). Those that
+//! wait go on in order, and meanwhile others only keep what they keep. One of those that wait may be ahead: it takes up to [`ROOM_AHEAD`]
+//! bytes beyond the limit. At a sweep while clients wait, a [`Holding`] records which of those that keep more than their share make too little
+//! progress: after some sweeps these are closed, and a line on standard error says so ([`Clients::tell`]).
+//!
+//! It is proved what a client may keep ([`Buffers::share`]), what that adds up to ([`shares_bound_what_is_kept`]), who is first in the queue, and
+//! what a sweep records ([`Holding::sweep`]). That [`Clients`] makes these calls as it must is seen by reading.
+//! [`shares_of_nothing`] and [`shares_of_much`] are examples.
+//!
 //! A client is served once its first bytes are known not to be a stranger's ([`opening_of`]). A stranger is closed, and a line on standard
 //! error says so ([`Clients::tell`]). A handler makes its client one by [`AfterPump::TurnAway`].
 //!
@@ -71,9 +84,14 @@ mod acceptors;
 mod after_pumps;
 mod binding;
 mod budgets;
+mod buffer_laws;
+mod buffers;
 mod clients;
+mod closings;
 mod conns;
+mod crowds;
 mod handlers;
+mod holdings;
 mod inputs;
 mod keeping;
 mod limits;
@@ -86,6 +104,7 @@ mod reports;
 mod resets;
 mod rooms;
 mod rounds;
+mod shortages;
 mod stopwatches;
 mod stranger_laws;
 mod strangers;
@@ -94,12 +113,15 @@ pub use acceptors::{Acceptor, Backlog};
 pub use after_pumps::{AfterPump, step_after};
 pub use binding::{bind, first_address, spelled_address};
 pub use budgets::STEPS;
+pub use buffer_laws::{shares_bound_what_is_kept, shares_of_much, shares_of_nothing};
+pub use buffers::{Buffers, CLIENT_SHARE, ROOM_AHEAD, Right, UNCOUNTED};
 pub use clients::Clients;
-pub use conns::{LIST_LEN, Listed, Owed};
+pub use conns::{Awaits, LIST_LEN, Listed};
 pub use handlers::{Client, Handler};
+pub use holdings::{Holding, LEAST_MOVED, MOVED_PART, SLOW_SWEEPS, WAITED_SWEEPS};
 pub use inputs::{Input, Readiness};
 pub use keeping::{CLIENT_KEEPALIVE, Keepalive, keep_alive, keep_alive_by};
-pub use limits::{KEPT_ROOM, PIECE_LEN};
+pub use limits::{KEPT_ROOM, PIECE_LEN, SCARCE};
 pub use openings::{OPENING_LEN, Opening, Stranger, opening_of};
 pub use operator_slots::{LINGER, PATIENCE, QUIET};
 pub use operators::{MAX_OPERATORS, Operators};
@@ -109,6 +131,7 @@ pub use reports::Report;
 pub use resets::reset;
 pub use rooms::Room;
 pub use rounds::{LoopHandler, poll_timeout, serve_rounds};
+pub use shortages::{Shortage, Standing};
 pub use stopwatches::Stopwatch;
 pub use stranger_laws::{
     openings_are_settled, openings_of_strangers, openings_of_text, small_letters_are_text,

@@ -298,7 +298,7 @@ impl Operators {
         );
         match step {
             AfterPump::GoOn => self.stirred = true,
-            AfterPump::Wait => slot.stirred = false,
+            AfterPump::Wait | AfterPump::Short(_) => slot.stirred = false,
             AfterPump::Close | AfterPump::TurnAway => {
                 let _ = self.slots.try_remove(key);
             }

@@ -1,6 +1,7 @@
 //! The queue of the clients that are ready.
-ghost use Rattle.std.specs.Prelude.{◌≡◌, [], true, ℕ, List, length, drop, slice_get, slice_set, vec_len, false, IfOk};
-ghost use Rattle.mc_net.specs.ReadyQueues.{taken};
+ghost use Rattle.std.specs.Prelude.{◌≡◌, ◌==◌, ◌<◌, [], true, ℕ, List, length, drop, remove, position, slice_get, slice_set, vec_len, false, IfNone, IfOk, IfSome};
+ghost use Rattle.std.specs.VecDeque.{deque_len};
+ghost use Rattle.mc_net.specs.ReadyQueues.{has_key, taken, without};
 
 use std::alloc::{AllocError, Global};
 use std::collections::VecDeque;
@@ -29,7 +30,7 @@ impl Model for ReadyQueue {
 }
 
 impl ReadyQueue {
-    ghost use Rattle.mc_net.specs.ReadyQueues.{after_push, are_distinct, has_key};
+    ghost use Rattle.mc_net.specs.ReadyQueues.{after_push, are_distinct};
 
     /// Makes an empty queue of keys below a number.
     pub fn new(alloc: Global, most: usize) -> Result<Self, AllocError>
@@ -68,6 +69,26 @@ impl ReadyQueue {
         }
     }
 
+    /// Returns the key at a place: the first one is at 0.
+    pub fn get(&self, place: usize) -> Option<usize>
+        ensures { result ≡ slice_get self.now.keys place }
+    {
+        self.keys.get(place).copied()
+    }
+
+    /// Takes a key out, if it is in the queue. The others stay in their order.
+    pub fn remove(&mut self, key: usize)
+        ensures { self.new ≡ record self.old { keys = without key self.old.keys } }
+    {
+        if !self.has(key) {
+            return;
+        }
+        if let Some(place) = place_of(&self.keys, key) {
+            let _ = self.keys.remove(place);
+            clear(&mut self.marks, key);
+        }
+    }
+
     /// Takes the first key, if there is one.
     pub fn pop(&mut self) -> Option<usize>
         ensures first { result ≡ slice_get self.old.keys 0 }
@@ -77,6 +98,22 @@ impl ReadyQueue {
         clear(&mut self.marks, key);
         Some(key)
     }
+}
+
+/// Returns the place of a key, if it is among some.
+fn place_of(keys: &VecDeque<usize>, key: usize) -> Option<usize>
+    ensures inside { IfSome result (λ place. place < deque_len keys.now) }
+    ensures found { IfSome result (λ place. remove keys.now.items place ≡ without key keys.now.items) }
+    ensures there { IfSome result (λ place. has_key key keys.now.items ≡ true) }
+    ensures absent { IfNone result (has_key key keys.now.items ≡ false) }
+{
+    first_of(keys, key)
+}
+
+fn first_of(keys: &VecDeque<usize>, key: usize) -> Option<usize>
+    ensures { result ≡ position (λ other. other == key) keys.now.items }
+{
+    keys.iter().position(|other| *other == key)
 }
 
 /// Clears the mark of a key, if it has one.

@@ -16,6 +16,8 @@ pub struct Report {
     pub accepted: u64,
     /// How many of these were closed as they connected: there was no place or no memory for them, or they were strangers.
     pub refused: u64,
+    /// The bytes that are kept for them, and for others than clients.
+    pub buffered: u64,
     /// Requests, and bytes of clients.
     pub tally: IoStats,
 }
@@ -41,6 +43,7 @@ impl Report {
             requests: self.tally.requests,
             read: self.tally.read,
             written: self.tally.written,
+            buffered: self.buffered,
             resident,
         }
     }
@@ -60,8 +63,8 @@ impl Display for Report {
         )?;
         write!(
             f,
-            " refused={} requests={requests} read={read} written={written}",
-            self.refused
+            " refused={} requests={requests} read={read} written={written} buffered={}",
+            self.refused, self.buffered
         )
     }
 }

@@ -314,3 +314,79 @@ fn proxy_pump_never_works(rt: HostRuntime) -> Result<(), Fail> {
     }
     Ok(())
 }
+
+/// Each call moves all bytes.
+const WHOLE: (&[Call], &[Call]) = (&[Moves(usize::MAX)], &[Moves(usize::MAX)]);
+
+/// Pumps a session while no more than `most` bytes may be kept for it. It returns how the pump ended, and what it lacks.
+fn pumped_within(
+    proxy: &mut Proxy,
+    session: u64,
+    client: &mut Stream,
+    most: u64,
+) -> (Pumped, Option<u64>) {
+    let Stream { source, sink } = client;
+    let mut tally = ClientTally::new(false);
+    tally.most = most;
+    let pumped = pump_client(
+        proxy,
+        session,
+        &mut false,
+        source,
+        sink,
+        &mut [0u8; 16],
+        &mut tally,
+    );
+    (pumped, tally.short)
+}
+
+/// The keys of a get whose answer is too large to be copied without room.
+const LARGE_KEYS: usize = 5;
+
+/// What an answer shows of an item with a large value.
+fn large_item(alloc: Global) -> Result<Vec<u8>, AllocError> {
+    let mut item = Vec::from_slice(alloc, b"VALUE a 0 1000000\r\n")?;
+    for _ in 0..1_000_000 {
+        item.push(b'x')?;
+    }
+    item.extend_from_slice(b"\r\n")?;
+    Ok(item)
+}
+
+/// Some items, and the end of an answer.
+fn answer_of(alloc: Global, item: &[u8], count: usize) -> Result<Vec<u8>, AllocError> {
+    let mut answer = Vec::new(alloc);
+    for _ in 0..count {
+        answer.extend_from_slice(item)?;
+    }
+    answer.extend_from_slice(b"END\r\n")?;
+    Ok(answer)
+}
+
+/// Whether a client is read only if there is room for a read, and a large answer is emitted though there is no room: it takes the place of its replies.
+fn waits_for_room(alloc: Global) -> Result<bool, Fail> {
+    let mut pool = new_pool(alloc, Sides::new(WHOLE))?;
+    mend(alloc, &mut pool, Sides::new(WHOLE))?;
+    let session = pool.proxy.admit()?;
+    let mut client = Stream::open(alloc, Sides::new(WHOLE));
+    client.source.bytes.extend_from_slice(b"get a a a a a\r\n")?;
+    let unread = pumped_within(&mut pool.proxy, session, &mut client, 15);
+    let mut is_so = unread == (Pumped::Again, Some(16)) && !pool.proxy.ready(session);
+    let taken = pumped_within(&mut pool.proxy, session, &mut client, u64::MAX);
+    is_so &= taken == (Pumped::Blocked, None) && pool.proxy.unanswered(session) == 1;
+    let item = large_item(alloc)?;
+    let reply = answer_of(alloc, item.as_slice(), 1)?;
+    for _ in 0..LARGE_KEYS {
+        pool.proxy.link_feed(0, reply.as_slice())?;
+        pool.proxy.link_turn(0)?;
+    }
+    pumped_within(&mut pool.proxy, session, &mut client, 0);
+    let answer = answer_of(alloc, item.as_slice(), LARGE_KEYS)?;
+    Ok(is_so && client.sink.taken.as_slice() == answer.as_slice())
+}
+
+#[test]
+fn a_client_waits_for_room(rt: HostRuntime) -> Result<(), Fail> {
+    assert!(rt; waits_for_room(rt.alloc())?);
+    Ok(())
+}

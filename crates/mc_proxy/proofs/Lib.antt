@@ -1,4 +1,5 @@
 pub mod AwaitedLemmas
+pub mod HeldLemmas
 pub mod SessionLinkLemmas
 pub mod SessionNotingLemmas
 pub mod TurnLemmas

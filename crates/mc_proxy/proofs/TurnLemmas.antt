@@ -16,6 +16,7 @@ use Rattle.mc_route.specs.declared.routes.Routed.{Routed}
 use Rattle.mc_link.specs.LinkState.{LinkState}
 use Rattle.mc_proxy.specs.SessionState.{SessionState, link_at}
 use Rattle.mc_proxy.specs.Sending.{is_link_marked, is_marked, is_session_marked}
+use Rattle.mc_proxy.specs.Held.{next_commands}
 use Rattle.mc_proxy.specs.Looks.{IsReady, waits_for}
 use Rattle.mc_proxy.specs.SessionTurns.{IsHeldUp}
 
@@ -166,3 +167,7 @@ at_error (Err e) holds = holds
 -- what a look at the first request says of a server
 pub waits_by : (ring : RingState) (place : ℕ) (waiting now : List Parsed) (b : Bool) → waiting ≡ now → b ≡ waits_for ring place now → b ≡ waits_for ring place waiting
 waits_by ring place waiting now b is told = rw is told
+
+-- what a look at the first request says of its commands
+pub counted_by : (ring : RingState) (waiting now : List Parsed) (count : ℕ) → waiting ≡ now → count ≡ next_commands ring now → count ≡ next_commands ring waiting
+counted_by ring waiting now count is told = rw is told

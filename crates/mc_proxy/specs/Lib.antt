@@ -2,6 +2,8 @@ pub mod SessionState
 pub mod Sending
 pub mod SessionNoting
 pub mod Emits
+pub mod Held
+pub mod UnansweredFields
 pub mod SessionTurns
 pub mod Looks
 pub mod Examples

@@ -16,6 +16,9 @@
 //! next request needs a link, and so whether to call it when that link has room again, or is lost.
 //! [`Proxy::commands`] returns how many commands its newest request has, and [`Proxy::is_foreign`] whether its next line names a host.
 //!
+//! [`Proxy::reserved`] returns how much memory a session's buffers take, and [`Proxy::held`] how much is kept for its unanswered requests. Emitting
+//! an answer copies what is kept for it ([`Proxy::held_by_oldest`]). [`Proxy::next_commands`] returns how many commands its next request has.
+//!
 //! `specs/Turns.antt` says what a turn does, `specs/LinkTurns.antt` what a turn of a link and its loss do, and `specs/Emits.antt` how an
 //! answer is emitted. A step that leaves its session and the links as they were changes nothing ([`steps_that_change_nothing_are_still`]).
 //! No call blocks.
@@ -40,6 +43,7 @@
 
 mod errors;
 mod examples;
+mod held;
 mod laws;
 mod limits;
 mod linked;
@@ -55,6 +59,7 @@ mod unanswered;
 
 pub use errors::ProxyError;
 pub use examples::lost_store_before_a_get;
+pub use held::{COMMAND_ROOM, PENDING_ROOM, REQUEST_ROOM};
 pub use laws::steps_that_change_nothing_are_still;
 pub use limits::MAX_SESSIONS;
 pub use mc_route::Losses;

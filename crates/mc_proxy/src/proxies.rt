@@ -1,5 +1,5 @@
 //! The proxy: sessions over links.
-ghost use Rattle.std.specs.Prelude.{◌≡◌, ◌≢◌, ◌+◌, ◌-◌, ◌^◌, ◌<◌, ◌≤◌, ◌↔◌, ◌⊎◌, [], None, Some, length, replicate, IsErrOf, IsTrue, IsOkUnless, IfOk, IfErr, IfSome, OnOk, OnErr};
+ghost use Rattle.std.specs.Prelude.{◌≡◌, ◌≢◌, ◌+◌, ◌-◌, ◌^◌, ◌<◌, ◌≤◌, ◌↔◌, ◌⊎◌, [], None, Some, length, min, replicate, IsErrOf, IsTrue, IsOkUnless, IfOk, IfErr, IfSome, OnOk, OnErr};
 
 use crate::errors::ProxyError;
 use crate::limits::MAX_SESSIONS;
@@ -46,6 +46,7 @@ impl Proxy {
     ghost use Rattle.mc_proxy.specs.Emits.{IsEmit, emitted};
     ghost use Rattle.mc_proxy.specs.SessionState.{fresh_session};
     ghost use Rattle.mc_proxy.specs.FirstAndLast.{commands_of, is_foreign_at};
+    ghost use Rattle.mc_proxy.specs.Held.{held_first_of, held_of, next_commands};
     ghost use Rattle.mc_proxy.specs.Looks.{IsReady, waits_for};
     ghost use Rattle.mc_proxy.specs.SessionTurns.{IsFed, IsTurn};
     ghost use Rattle.mc_proxy.specs.ProxyState.{is_finished, opened, output_of, sent_by, session_at, unanswered_of, with_fresh, without};
@@ -265,12 +266,61 @@ impl Proxy {
         self.sessions.get(number).is_some_and(Session::is_finished)
     }
 
+    /// Returns how many commands the first whole request or fault of a session has: none if none has arrived, or it is not open. It scans
+    /// that request, and takes no memory.
+    pub fn next_commands(&self, number: u64) -> usize
+        ensures { result ≡ next_commands self.now.ring (waiting_of (session_at self.now number)) }
+    {
+        match self.sessions.get(number) {
+            Some(session) => session.next_commands(&self.ring),
+            None => 0,
+        }
+    }
+
+    /// Returns how many bytes are kept for the unanswered requests of a session, as far as 64 bits count: the values of the replies that
+    /// arrived, and room for each request and command ([`REQUEST_ROOM`](crate::REQUEST_ROOM), [`COMMAND_ROOM`](crate::COMMAND_ROOM)). It is 0
+    /// if the session is not open. It looks at each unanswered request, and takes no memory.
+    pub fn held(&self, number: u64) -> u64
+        ensures { result ≡ min (held_of (session_at self.now number)) (2 ^ 64 - 1) }
+    {
+        self.sessions.get(number).map_or(0, Session::held)
+    }
+
+    /// Returns likewise how many bytes are kept for the oldest unanswered request of a session, of which its answer is made: none if all are
+    /// answered, or it is not open.
+    pub fn held_by_oldest(&self, number: u64) -> u64
+        ensures { result ≡ min (held_first_of (session_at self.now number)) (2 ^ 64 - 1) }
+    {
+        self.sessions.get(number).map_or(0, Session::held_by_oldest)
+    }
+
     /// Returns how many bytes of memory are reserved for a session's input and output: no fewer than its output has, and 0 if it is not open.
+    /// What is kept for its unanswered requests is counted by [`Proxy::held`].
     pub fn reserved(&self, number: u64) -> usize
         ensures output { length (output_of (session_at self.now number)) ≤ result }
         ensures not_open { session_at self.now number ≡ None → result ≡ 0 }
     {
         self.sessions.get(number).map_or(0, Session::reserved)
+    }
+
+    /// Returns how many bytes more are reserved for a session's input once `more` further bytes have arrived: 0 if they fit into what is reserved, or the
+    /// session is not open.
+    pub fn growth(&self, number: u64, more: usize) -> usize {
+        match self.sessions.get(number) {
+            Some(session) => session.growth(more),
+            None => 0,
+        }
+    }
+
+    /// Returns how many of `bytes` further bytes can arrive at a session so that at most `room` bytes more are reserved: all of them, or those that fit into
+    /// what is reserved. If the session is not open it is 0.
+    pub fn readable(&self, number: u64, bytes: usize, room: usize) -> usize
+        ensures { result ≤ bytes }
+    {
+        match self.sessions.get(number) {
+            Some(session) => session.readable(bytes, room),
+            None => 0,
+        }
     }
 
     /// Frees the memory of each empty buffer of a session that has room for more than `kept` bytes or requests. It is for a session that is

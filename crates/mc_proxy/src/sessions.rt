@@ -3,6 +3,7 @@ ghost use Rattle.std.specs.Prelude.{◌≡◌, ◌≢◌, ◌≤◌, ◌<◌, �
 ghost use Rattle.std.specs.Prelude.{IsTrue, IfOk, IfSome, IfNone, IsOkUnless, OnOk, OnErr};
 ghost use Rattle.mc_proxy.specs.SessionState.{states};
 
+use crate::held::command_count;
 use crate::sending::{is_any_marked, is_held_up, prepare, send_all, start_at_front};
 use crate::session_errors::SessionError;
 use crate::session_limits::{MAX_UNANSWERED, UNSENT_MARK};
@@ -55,6 +56,7 @@ impl Session {
     ghost use Rattle.mc_proxy.specs.SessionNoting.{set_outcome_in_session};
     ghost use Rattle.mc_proxy.specs.Sending.{at_once, handed, is_marked, is_session_marked};
     ghost use Rattle.mc_proxy.specs.FirstAndLast.{commands_in};
+    ghost use Rattle.mc_proxy.specs.Held.{held_by_all, held_by_first, next_commands};
     ghost use Rattle.mc_proxy.specs.Looks.{IsReady, waits_for};
     ghost use Rattle.mc_proxy.specs.SessionTurns.{IsFed, IsTurn};
 
@@ -407,8 +409,38 @@ impl Session {
         self.sent = consume_front(&mut self.output, self.sent + count);
     }
 
+    /// Returns how many commands the first whole request or fault has: none if none has arrived. It takes no memory.
+    pub fn next_commands(&self, ring: &Ring) -> usize
+        ensures { result ≡ next_commands ring.now (rest_of self.now.reader []) }
+    {
+        match &self.reader.peek() {
+            Peek::First(asked, _) => command_count(asked, ring),
+            Peek::More => 0,
+            Peek::Closed => 0,
+        }
+    }
+
+    /// Returns how many bytes are kept for the unanswered requests, as far as 64 bits count: the values of the replies that arrived, and room
+    /// for each request and command. It looks at each unanswered request, and takes no memory.
+    pub fn held(&self) -> u64
+        ensures { result ≡ min (held_by_all self.now.unanswered) (2 ^ 64 - 1) }
+    {
+        let mut held: u64 = 0;
+        for open_one in &self.unanswered {
+            held = held.saturating_add(open_one.held());
+        }
+        held
+    }
+
+    /// Returns likewise how many bytes are kept for the oldest unanswered request: none if all are answered.
+    pub fn held_by_oldest(&self) -> u64
+        ensures { result ≡ min (held_by_first self.now.unanswered) (2 ^ 64 - 1) }
+    {
+        self.unanswered.front().map_or(0, Unanswered::held)
+    }
+
     /// Returns how many bytes of memory are reserved for what is kept of the input, and for the output: no fewer than either has, as far as 64
-    /// bits count. What is kept for unanswered requests is not counted.
+    /// bits count. What is kept for unanswered requests is counted by [`Session::held`].
     pub fn reserved(&self) -> usize
         ensures input { min self.now.reader.held (2 ^ 64 - 1) ≤ result }
         ensures output { length self.now.output ≤ result }
@@ -416,6 +448,18 @@ impl Session {
         self.reader
             .reserved()
             .saturating_add(self.output.capacity())
+    }
+
+    /// Returns how many bytes more are reserved for the input once `more` further bytes have arrived.
+    pub fn growth(&self, more: usize) -> usize {
+        self.reader.growth(more)
+    }
+
+    /// Returns how many of `bytes` further bytes of the input can arrive so that at most `room` bytes more are reserved.
+    pub fn readable(&self, bytes: usize, room: usize) -> usize
+        ensures { result ≤ bytes }
+    {
+        self.reader.readable(bytes, room)
     }
 
     /// Frees the memory of each empty buffer that has room for more than `kept` bytes or requests.

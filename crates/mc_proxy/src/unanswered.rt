@@ -1,7 +1,8 @@
 //! A request that was taken and is not answered.
-ghost use Rattle.std.specs.Prelude.{◌≡◌, ◌++◌, length, OnOk, OnErr};
+ghost use Rattle.std.specs.Prelude.{◌≡◌, ◌++◌, ◌-◌, ◌^◌, length, min, OnOk, OnErr};
 ghost use Rattle.mc_proxy.specs.Emits.{awaited_in, count_awaited};
 
+use crate::held::{COMMAND_ROOM, REQUEST_ROOM, kept_by, kept_by_all, kept_once_set, keys_len_of};
 use crate::session_errors::SessionError;
 use mc_reply::write_fault;
 use mc_request::Parsed;
@@ -17,22 +18,26 @@ pub struct Unanswered {
     outcomes: Vec<Outcome>,
     /// How many of the replies are pending.
     awaited: usize,
+    /// How many bytes the keys of a retrieval command have, as far as 64 bits count.
+    keys: u64,
+    /// How many bytes the outcomes keep of values, as far as 64 bits count.
+    kept: u64,
 }
 
 impl Model for Unanswered {
-    ghost use Rattle.std.specs.Prelude.{◌≡◌};
     ghost use Rattle.mc_proxy.specs.SessionState.{Unanswered};
-    ghost use Rattle.mc_proxy.specs.Emits.{awaited_in};
+    ghost use Rattle.mc_proxy.specs.UnansweredFields.{IsCounted};
 
     ghost Value = { Unanswered };
 
     ghost view = { λ u. record { what = u.what; losses = u.losses; outcomes = u.outcomes.items } };
 
-    ghost invariant = { λ u. u.awaited ≡ awaited_in u.outcomes.items };
+    ghost invariant = { IsCounted };
 }
 
 impl Unanswered {
     ghost use Rattle.mc_proxy.specs.Emits.{answer_of_one, hides_loss_of, is_known};
+    ghost use Rattle.mc_proxy.specs.Held.{held_by_one};
     ghost use Rattle.mc_proxy.specs.SessionNoting.{set_outcome};
 
     /// Makes the entry of a request or fault that was just taken: the choice for its lost commands, and the immediate
@@ -41,11 +46,15 @@ impl Unanswered {
         ensures { result ≡ record { what = what; losses = losses; outcomes = outcomes.items } }
     {
         let awaited = awaited_in(outcomes.as_slice());
+        let keys = keys_len_of(&what);
+        let kept = kept_by_all(outcomes.as_slice());
         Unanswered {
             what,
             losses,
             outcomes,
             awaited,
+            keys,
+            kept,
         }
     }
 
@@ -54,6 +63,17 @@ impl Unanswered {
         ensures { result ≡ length self.now.outcomes }
     {
         self.outcomes.len()
+    }
+
+    /// Returns how many bytes are kept for it until it is answered, as far as 64 bits count. It takes no memory.
+    pub fn held(&self) -> u64
+        ensures { result ≡ min (held_by_one self.now) (2 ^ 64 - 1) }
+    {
+        let commands = self.outcomes.len() as u64;
+        REQUEST_ROOM
+            .saturating_add(commands.saturating_mul(COMMAND_ROOM))
+            .saturating_add(self.keys)
+            .saturating_add(self.kept)
     }
 
     /// Returns whether the outcome of each command is known.
@@ -83,7 +103,12 @@ impl Unanswered {
         }
         let before = count_awaited(&self.outcomes[at]);
         self.awaited = self.awaited - before + count_awaited(&outcome);
+        let kept_before = kept_by(&self.outcomes[at]);
+        let kept = kept_by(&outcome) as u64;
         self.outcomes[at] = outcome;
+        let outcomes = self.outcomes.as_slice();
+        let kept_by_all = kept_once_set(outcomes, self.kept, kept_before, kept);
+        self.kept = kept_by_all;
     }
 
     /// Appends the answer, or nothing if there is no memory.

@@ -1,6 +1,6 @@
 pub mod StretchLemmas
 pub mod RoundLemmas
 pub mod PumpLemmas
-pub mod OwedLemmas
+pub mod PendingLemmas
 pub mod LinkLemmas
 pub mod LawLemmas

@@ -26,8 +26,8 @@ IsHeldUpAt ring links None = ⊥
 IsHeldUpAt ring links (Some session) = IsHeldUp ring links session
 
 -- whether a request of a session is not answered, or an answer not sent; false if it is not open
-abbrev pub is_owed_at : Option SessionState → Bool
-is_owed_at session = nat_lt 0 (unanswered_of session) || nat_lt 0 (length (output_of session))
+abbrev pub has_pending_at : Option SessionState → Bool
+has_pending_at session = nat_lt 0 (unanswered_of session) || nat_lt 0 (length (output_of session))
 
 -- a session after its next answer is emitted, if that is known: none if it is not known, or the session not open
 abbrev pub emitted_at : Option SessionState → Option SessionState

@@ -1,5 +1,6 @@
 pub mod Tallies
 pub mod Work
+pub mod Rooms
 pub mod Calls
 pub mod Clients
 pub mod Rounds

@@ -1,14 +1,15 @@
 //! The pump of a session: bytes in, requests taken, answers out.
-ghost use Rattle.std.specs.Prelude.{◌≡◌, ◌<◌, ◌==◌, ◌&&◌, ◌↔◌, ℕ, Bool, List, [], Option, None, Ok, false, true, length, IfOk, IsSome, IsTrue};
+ghost use Rattle.std.specs.Prelude.{◌≡◌, ◌<◌, ◌==◌, ◌&&◌, ◌↔◌, ℕ, Bool, List, [], Option, None, Ok, false, true, length, IfOk, IfSome, IsSome, IsTrue};
 ghost use Rattle.mc_proxy.specs.ProxyState.{output_of, session_at, unanswered_of};
 ghost use Rattle.mc_proxy.specs.Turns.{HasAnswer, hides_loss_at, waiting_of};
 ghost use Rattle.mc_stream.specs.Sides.{pump_of};
 ghost use Rattle.mc_proxy_pump.specs.Calls.{SessionStretch};
-ghost use Rattle.mc_proxy_pump.specs.Clients.{EndsEarly, PumpsClient, emitted_at, foreign_after, is_closed_at, is_owed_at};
+ghost use Rattle.mc_proxy_pump.specs.Clients.{EndsEarly, PumpsClient, emitted_at, foreign_after, is_closed_at, has_pending_at};
 ghost use Rattle.mc_proxy_pump.specs.Rounds.{HasAnswered, HowMany, Receives, Sends, StopsAt, TakesTurns, ends_by, reads_by};
 ghost use Rattle.mc_proxy_pump.specs.Tallies.{counts_of};
 
 use crate::limits::QUANTUM;
+use crate::rooms::{kept_for, may_emit, may_take, readable, request_room, shortage};
 use crate::tallies::ClientTally;
 use mc_proxy::{Emit, Proxy, SessionTurn, UNSENT_MARK};
 use mc_stream::{MAX_ROUNDS, Pumped, read_once, write_once};
@@ -24,7 +25,9 @@ use std::io::{Read, Write};
 /// those whose answer hides a loss, and the bytes.
 ///
 /// Requests are taken and answers emitted only while some of the [`QUANTUM`] of work is left. Once none is, the pump writes the unsent
-/// output in one call, and returns [`Pumped::Again`].
+/// output in one call, and returns [`Pumped::Again`]. It ends so too if its next step would keep more than `tally.most` bytes for the session: to take
+/// a request, or to read. Then `tally.short` is how many bytes would be kept. If more than `tally.answer` bytes are kept for the request that is
+/// answered next, its answer is never emitted, and the pump ends so too.
 ///
 /// After [`Pumped::Blocked`] the caller waits for one of three events. The stream may make progress; a server may answer one of
 /// the session's commands; or a link may send more of its bytes, if a request waits for its mark. Then the pump is called again.
@@ -47,6 +50,7 @@ pub fn pump_client<R: Read, W: Write>(
     ensures not_open { session_at proxy.old session ≡ None → (result ≡ Pumped.Failed) × (proxy.new ≡ proxy.old) }
     ensures not_counted { session_at proxy.old session ≡ None → tally.new ≡ tally.old }
     ensures foreign { tally.new.foreign ≡ foreign_after result (session_at proxy.new session) tally.old.foreign }
+    ensures short { IsSome (session_at proxy.old session) → IfSome tally.new.short (λ need. (result ≡ Pumped.Again) × (tally.new.most < need)) }
 {
     if !proxy.is_open(session) {
         return Pumped::Failed;
@@ -55,6 +59,7 @@ pub fn pump_client<R: Read, W: Write>(
     tally.left = QUANTUM;
     let pump = rounds(proxy, session, ended, reader, writer, piece, tally);
     tally.foreign = is_foreign_after(pump, proxy, session, before);
+    tally.short = shortage(pump, proxy, session, piece.len(), tally.most);
     pump
 }
 
@@ -62,8 +67,8 @@ pub fn pump_client<R: Read, W: Write>(
 /// request and reads nothing: it is for a session with too many buffered bytes. If the session has no pending request and no
 /// unsent answer, or is not open, it does nothing.
 ///
-/// It emits answers only while some of its [`QUANTUM`] of work is left: once none is, it writes, and the error is [`Pumped::Again`]. Any
-/// error is how the pump stops.
+/// It emits answers only while some of its [`QUANTUM`] of work is left, and only those for which no more than `tally.answer` bytes are kept: else it
+/// writes, and the error is [`Pumped::Again`]. Any error is how the pump stops. An answer needs no room, so `tally.short` is none.
 pub fn pump_answers<W: Write>(
     proxy: &mut Proxy,
     session: u64,
@@ -77,19 +82,21 @@ pub fn pump_answers<W: Write>(
     ensures not_counted { session_at proxy.old session ≡ None → tally.new ≡ tally.old }
     ensures foreign { tally.new.foreign ≡ tally.old.foreign }
 {
-    if !is_owed(proxy, session) {
+    if !has_pending(proxy, session) {
         return Ok(false);
     }
     tally.left = QUANTUM;
+    tally.short = None;
     if let Err(pump) = put_out(proxy, session, tally) {
-        return Err(stop(pump, proxy, session, writer, tally));
+        let pump = stop(pump, proxy, session, writer, tally);
+        return Err(pump);
     }
     send(proxy, session, writer, tally)
 }
 
 /// Returns whether a session has a request that is not answered, or an answer that is not sent.
-pub fn is_owed(proxy: &Proxy, session: u64) -> bool
-    ensures { result ≡ is_owed_at (session_at proxy.now session) }
+pub fn has_pending(proxy: &Proxy, session: u64) -> bool
+    ensures { result ≡ has_pending_at (session_at proxy.now session) }
 {
     proxy.unanswered(session) > 0 || !proxy.output(session).is_empty()
 }
@@ -149,7 +156,8 @@ fn stop<W: Write>(
     }
 }
 
-/// Does one round: requests and answers, a write, a read. The error is how the pump stops.
+/// Does one round: requests and answers, a write, a read. The error is how the pump stops: `Again` if it would read, and what it reads needs more
+/// memory than it may.
 fn round<R: Read, W: Write>(
     proxy: &mut Proxy,
     session: u64,
@@ -175,8 +183,20 @@ fn round<R: Read, W: Write>(
         return Err(Pumped::Done);
     }
     if is_read(turn, *ended, is_marked) {
+        let len = readable(proxy, session, piece.len(), tally.most);
+        if len == 0 {
+            return Err(Pumped::Again);
+        }
         let can_send = moved && !proxy.output(session).is_empty();
-        return read_or_block(proxy, session, ended, reader, piece, can_send, tally);
+        return read_or_block(
+            proxy,
+            session,
+            ended,
+            reader,
+            &mut piece[..len],
+            can_send,
+            tally,
+        );
     }
     if moved {
         return Ok(());
@@ -221,8 +241,8 @@ fn advance(proxy: &mut Proxy, session: u64, tally: &mut ClientTally) -> Result<S
     }
 }
 
-/// Takes requests until none waits, or none can be taken, and returns why. The error is how the pump stops: `Again` if no work is left, and
-/// `Failed` if the unread bytes name a host.
+/// Takes requests until none waits, or none can be taken, and returns why. The error is how the pump stops: `Again` if no work is left, or the next
+/// request needs more memory than it may, and `Failed` if the unread bytes name a host.
 fn take_turns(
     proxy: &mut Proxy,
     session: u64,
@@ -233,6 +253,7 @@ fn take_turns(
     ensures stop { IfOk result (λ turn. StopsAt turn proxy.new (session_at proxy.new session)) }
     ensures early { IfOk result (λ turn. EndsEarly tally.new.left (session_at proxy.new session)) }
 {
+    let mut kept = kept_for(proxy, session);
     loop {
         if tally.left == 0 {
             return Err(Pumped::Again);
@@ -240,13 +261,18 @@ fn take_turns(
         if proxy.is_foreign(session) {
             return Err(Pumped::Failed);
         }
+        if !may_take(proxy, session, kept, tally.most) {
+            return Err(Pumped::Again);
+        }
         let Ok(turn) = proxy.turn(session) else {
             return Err(Pumped::Failed);
         };
         match turn {
             SessionTurn::Took => {
                 tally.passed.took();
-                tally.charge_request(proxy.commands(session));
+                let commands = proxy.commands(session);
+                tally.charge_request(commands);
+                kept = kept.saturating_add(request_room(commands));
             },
             SessionTurn::Idle => return Ok(SessionTurn::Idle),
             SessionTurn::Waiting => return Ok(SessionTurn::Waiting),
@@ -256,7 +282,7 @@ fn take_turns(
 }
 
 /// Emits the answers that are known, until the unsent bytes reach the mark, and returns whether there was one. The error is how the pump
-/// stops: `Again` if no work is left.
+/// stops: `Again` if no work is left, or the next answer needs more memory than it may.
 fn put_out(proxy: &mut Proxy, session: u64, tally: &mut ClientTally) -> Result<bool, Pumped>
     requires is_open { IsSome (session_at proxy.old session) }
     ensures calls { SessionStretch session proxy.old proxy.new [] [] (counts_of tally.old) (counts_of tally.new) }
@@ -272,6 +298,9 @@ fn put_out(proxy: &mut Proxy, session: u64, tally: &mut ClientTally) -> Result<b
             return Ok(answered);
         }
         if tally.left == 0 {
+            return Err(Pumped::Again);
+        }
+        if !may_emit(proxy, session, tally.answer) {
             return Err(Pumped::Again);
         }
         let hides = is_counted(proxy, session, tally);

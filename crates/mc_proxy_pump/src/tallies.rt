@@ -17,6 +17,13 @@ pub struct ClientTally {
     /// Whether a pump of a client failed with unread bytes that name a host: a web browser sends such a line, no client of a cache does.
     /// No pump resets it.
     pub foreign: bool,
+    /// How many bytes of memory may be kept for the client of the next pump ([`kept_for`](crate::kept_for)): the caller sets it. A request is
+    /// taken and the input read only if what is kept then is not more.
+    pub most: u64,
+    /// How many bytes may be kept for a request whose answer is emitted ([`Proxy::held_by_oldest`](mc_proxy::Proxy::held_by_oldest)).
+    pub answer: u64,
+    /// How many bytes would have to be kept for the client of the last pump so that it can go on, if that is more than may be.
+    pub short: Option<u64>,
     /// The work that is left to the running pump of a client, in units.
     pub(crate) left: u64,
 }
@@ -31,6 +38,9 @@ impl ClientTally {
             missed: counts.then_some(0),
             foreign: false,
             left: QUANTUM,
+            most: u64::MAX,
+            answer: u64::MAX,
+            short: None,
         }
     }
 

@@ -1,6 +1,6 @@
 //! When a server is tried again after a failure.
 ghost use Rattle.std.specs.Prelude.{◌≡◌, ◌≤◌, ◌+◌, ◌*◌, ◌%◌};
-ghost use Rattle.mc_proxyd.specs.Delays.{least_delay};
+ghost use Rattle.mc_proxyd.specs.Delays.{least_delay, silences_after};
 
 use crate::limits::{FIRST_DELAY, LONGEST_DELAY};
 
@@ -23,4 +23,16 @@ fn least_delay(failures: u32) -> u64
 {
     let times = 2u64.saturating_pow(failures.saturating_sub(1));
     FIRST_DELAY.saturating_mul(times).min(LONGEST_DELAY)
+}
+
+/// Returns how many links of a server in a row were lost while it answered none of their commands, after one more link was lost with this number of
+/// pending commands. A link that got a reply, or had no command, changes nothing.
+pub fn silences_after(silences: u32, answered: bool, pending: usize) -> u32
+    ensures { result ≡ silences_after silences answered pending }
+{
+    if answered || pending == 0 {
+        silences
+    } else {
+        silences.saturating_add(1)
+    }
 }

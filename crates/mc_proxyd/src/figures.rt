@@ -60,13 +60,15 @@ fn try_show(
 }
 
 /// Returns the settings of a proxy of this number of servers, by memcached's names if it has them.
-fn settings_of(settings: &ProxySettings, servers: usize) -> [Setting<'static>; 8] {
+fn settings_of(settings: &ProxySettings, servers: usize) -> [Setting<'static>; 10] {
     [
         setting(b"maxconns", MAX_SESSIONS as u64),
         setting(b"num_threads", 1),
         setting(b"idle_timeout", settings.terms.idle),
         setting(b"servers", servers as u64),
+        setting(b"buffers", settings.buffers),
         setting(b"held", settings.held),
+        setting(b"answer", settings.answer),
         setting(b"timeout", settings.timeout),
         Setting {
             name: b"lost",

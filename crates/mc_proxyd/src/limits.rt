@@ -24,6 +24,10 @@ pub const MAX_PASSES: u32 = 4;
 /// client gets the same memory, which is still in the processor's caches.
 pub const CLIENT_ROOM: usize = 16_384;
 
+/// The bytes of a read for a client that may keep little more: so few that no data block is kept apart by them, for which much more than they are is
+/// reserved.
+pub const LITTLE_LEN: usize = 1000;
+
 /// By this token a poll reports that a look-up has ended. It is after those of clients and of servers.
 pub const LOOKED_UP: Token = Token(MAX_SESSIONS + SERVER_LIMIT);
 

@@ -47,6 +47,7 @@ mod pools;
 mod probes;
 mod proxy_loops;
 mod questions;
+mod refusals;
 mod resolving;
 mod rooms;
 mod servers;
@@ -68,7 +69,7 @@ use mc_program::{
     EprintSeldom, Failure, LogOption, LoggingRuntime, ServeError, exit_status, is_read,
     open_streams, read_words, tell_open_files,
 };
-use mc_proxy::{Losses, MAX_SESSIONS};
+use mc_proxy::MAX_SESSIONS;
 use mc_ring::Ring;
 use mistakes::tell_mistake;
 use options::{ListError, Options, PROGRAM, ServerSource, command};
@@ -129,7 +130,7 @@ where
     } = options;
     admin.check().map_err(Failure::Refused)?;
     if check {
-        return print_size(system, &ring, settings.losses);
+        return print_size(system, &ring, &settings);
     }
     let is_read = is_read(system, log.is_any());
     match Operators::new(system, alloc, &admin) {
@@ -167,6 +168,14 @@ where
     )
 }
 
+/// Why a word of `--buffers` is refused.
+const BAD_BUFFERS: &str =
+    "invalid value for '--buffers <bytes>': neither in 4194304..=1099511627776 nor a number of K, M or G from 4M to 1024G";
+
+/// Why a word of `--answer` is refused.
+const BAD_ANSWER: &str =
+    "invalid value for '--answer <bytes>': neither in 1024..=1099511627776 nor a number of K, M or G up to 1024G";
+
 /// Why a word of `--held` is refused.
 const BAD_HELD: &str =
     "invalid value for '--held <bytes>': neither in 1..=1099511627776 nor a number of K, M or G up to 1024G";
@@ -184,23 +193,23 @@ fn failure_of(error: ListError) -> Failure
     ensures bad { error ≡ ListError.Bad → status_of result ≡ 2 }
     ensures mistake { (place : ServerSource) → (mistake : Mistake) → error ≡ ListError.At place mistake → status_of result ≡ 2 }
     ensures held { error ≡ ListError.Held → status_of result ≡ 2 }
+    ensures buffers { error ≡ ListError.Buffers → status_of result ≡ 2 }
+    ensures answer { error ≡ ListError.Answer → status_of result ≡ 2 }
     ensures memory { error ≡ ListError.Memory → result ≡ Failure.Serve ServeError.Memory }
 {
     match error {
         ListError::Bad | ListError::At(_, _) => Failure::Refused("bad server list"),
         ListError::Held => Failure::Refused(BAD_HELD),
+        ListError::Buffers => Failure::Refused(BAD_BUFFERS),
+        ListError::Answer => Failure::Refused(BAD_ANSWER),
         ListError::Memory => Failure::Serve(ServeError::Memory),
     }
 }
 
-/// Prints how many servers and points a ring has, and the choice for lost commands if it is not the default.
-fn print_size<R: Print>(rt: &R, ring: &Ring, losses: Losses) -> Result<(), Failure> {
+/// Prints how many servers and points a ring has, and those of the settings that are not at their defaults.
+fn print_size<R: Print>(rt: &R, ring: &Ring, settings: &ProxySettings) -> Result<(), Failure> {
     let servers = ring.servers().len();
     let points = ring.points().len();
-    let lost = match losses {
-        Losses::Told => "",
-        Losses::Missed => " lost missed",
-    };
-    let written = println!(rt; "servers {servers} points {points}{lost}");
+    let written = println!(rt; "servers {servers} points {points}{settings}");
     written.map_err(|_| Failure::Output)
 }

@@ -22,8 +22,14 @@ use std::alloc::{AllocError, Global};
 use std::fs::Files;
 use thiserror::Error;
 
-/// The most that `--held` may be: 1 TiB.
-const MOST_HELD: u64 = 1_099_511_627_776;
+/// The most that `--held`, `--buffers` and `--answer` may be: 1 TiB.
+const MOST_BYTES: u64 = 1_099_511_627_776;
+
+/// The least that `--buffers` may be: 4 MiB.
+const LEAST_BUFFERS: u64 = 4_194_304;
+
+/// The least that `--answer` may be: 1 KiB.
+const LEAST_ANSWER: u64 = 1024;
 
 /// The program's name.
 pub const PROGRAM: &str = "mc_proxyd";
@@ -71,6 +77,12 @@ pub enum ListError {
     /// 4: the list of servers, or the server of `--join`, has this mistake.
     #[error("{1}")]
     At(ServerSource, Mistake),
+    /// 5: the word of `--buffers` is no number of bytes, or is outside its limits.
+    #[error("bad number of bytes for all clients")]
+    Buffers,
+    /// 6: the word of `--answer` is no number of bytes, or is outside its limits.
+    #[error("bad number of bytes of an answer")]
+    Answer,
 }
 
 impl From<AllocError> for ListError {
@@ -109,8 +121,9 @@ impl<'a> Options<'a> {
         };
         let after = matches.get_one::<u64>("join-after").unwrap_or(0);
         let join = joining(alloc, servers.as_slice(), matches.get_str("join"), after)?;
-        let held = matches.get_str("held").unwrap_or("");
-        let held = size_within(held, 1, MOST_HELD).ok_or(ListError::Held)?;
+        let held = size_of(matches, "held", 1).ok_or(ListError::Held)?;
+        let buffers = size_of(matches, "buffers", LEAST_BUFFERS).ok_or(ListError::Buffers)?;
+        let answer = size_of(matches, "answer", LEAST_ANSWER).ok_or(ListError::Answer)?;
         let list = owned(alloc, list)?;
         let (names, addresses) = unzipped(alloc, servers)?;
         let ring = Ring::new(alloc, names.as_slice())?;
@@ -121,6 +134,8 @@ impl<'a> Options<'a> {
                 terms: Terms::of(matches),
                 losses: losses_named(matches.get_str("lost").unwrap_or("")),
                 held,
+                buffers,
+                answer,
                 timeout,
                 addresses,
                 list,
@@ -131,6 +146,11 @@ impl<'a> Options<'a> {
             check: matches.get_flag("check"),
         })
     }
+}
+
+/// Returns the bytes that the word of an option names, if they are from `least` to [`MOST_BYTES`].
+fn size_of(matches: &ArgMatches<'_>, name: &str, least: u64) -> Option<u64> {
+    size_within(matches.get_str(name).unwrap_or(""), least, MOST_BYTES)
 }
 
 /// Returns the servers that a file lists. The error is its mistake.
@@ -234,7 +254,9 @@ pub fn command<'a>(alloc: Global) -> Result<Command<'a>, AllocError> {
         .version(VERSION)
         .about("A memcached proxy: spreads keys over servers by libketama's ring")
         .arg(listen(alloc, "127.0.0.1:11212"))?
+        .arg(buffers(alloc))?
         .arg(held(alloc))?
+        .arg(answer(alloc))?
         .arg(timeout(alloc))?
         .arg(lost(alloc))?
         .arg(idle(alloc))?
@@ -265,12 +287,30 @@ pub fn command<'a>(alloc: Global) -> Result<Command<'a>, AllocError> {
         .arg(server(alloc)?)
 }
 
+fn buffers<'a>(alloc: Global) -> Arg<'a> {
+    size(
+        alloc,
+        "buffers",
+        "268435456",
+        "The most bytes of requests, replies and answers that are kept for all clients; 4194304 to 1099511627776, or with K, M or G",
+    )
+}
+
 fn held<'a>(alloc: Global) -> Arg<'a> {
     size(
         alloc,
         "held",
         "268435456",
-        "Stop reading a client for which more bytes of requests and replies are kept, until all its answers are sent; 1 to 1099511627776, or with K, M or G",
+        "Stop reading a client with pending answers for which more bytes of requests, replies and answers are kept, until it is fewer; 1 to 1099511627776, or with K, M or G",
+    )
+}
+
+fn answer<'a>(alloc: Global) -> Arg<'a> {
+    size(
+        alloc,
+        "answer",
+        "268435456",
+        "The most bytes of an answer, and no more than half of --buffers: a request whose replies are more closes its connection; 1024 to 1099511627776, or with K, M or G",
     )
 }
 

@@ -6,11 +6,10 @@ use crate::notices::Cause;
 use crate::servers::NamedServer;
 use crate::settings::ProxySettings;
 use crate::upstreams::Upstream;
-use crate::woken::Woken;
 use mc_admin::LinkFigures;
 use mc_net::{AfterPump, KEPT_ROOM, step_after};
 use mc_program::earlier;
-use mc_proxy::{LINK_MARK, MAX_SESSIONS, Proxy, ProxyError};
+use mc_proxy::{LINK_MARK, MAX_SESSIONS, PENDING_ROOM, Proxy, ProxyError};
 use mc_ring::{Address, Ring};
 use mio::event::Event;
 use mio::{Registry, Token};
@@ -96,7 +95,7 @@ impl Upstreams {
         let mut any = false;
         for (place, upstream) in self.upstreams.iter_mut().enumerate() {
             if upstream.is_late(now, self.timeout) {
-                upstream.lose_by(proxy, place, Cause::Late);
+                upstream.lose_by(proxy, place, Cause::Late, now);
                 any = true;
             }
         }
@@ -171,7 +170,7 @@ impl Upstreams {
 
     /// Carries the bytes of the upstreams that have something to send, or may have received something, at a moment. It appends the
     /// sessions that were answered to `woken`, and the places of the links that fell below their mark to `freed`. The result is whether
-    /// any other session may go on, since an upstream was lost or there was no memory to note one.
+    /// any other session may go on, since an upstream was lost or there was no memory to note a place.
     ///
     /// An upstream that fails is dropped and its link is lost: its pending commands are lost, and it is tried again. One whose link is not up is
     /// asked whether it answers, and has no commands.
@@ -179,7 +178,7 @@ impl Upstreams {
         &mut self,
         proxy: &mut Proxy,
         piece: &mut [u8],
-        woken: &mut Woken,
+        woken: &mut Vec<u64>,
         freed: &mut Vec<usize>,
         now: u64,
     ) -> bool
@@ -191,15 +190,14 @@ impl Upstreams {
                 continue;
             }
             let was_marked = is_marked(proxy, place);
-            let pumped = upstream.pump(proxy, place, piece, &mut woken.pumped);
-            others |= !woken.bring(upstream.brought);
+            let pumped = upstream.pump(proxy, place, piece, woken);
             if self.timeout > 0 {
                 upstream.note_waiting(proxy, place, now);
             }
             match step_after(pumped) {
-                AfterPump::GoOn | AfterPump::Wait => {}
+                AfterPump::GoOn | AfterPump::Wait | AfterPump::Short(_) => {}
                 AfterPump::Close | AfterPump::TurnAway => {
-                    upstream.lose(proxy, place);
+                    upstream.lose(proxy, place, now);
                     others = true;
                 }
             }
@@ -211,8 +209,8 @@ impl Upstreams {
     }
 
     /// Frees the memory that the links' empty buffers have reserved: all of it or, while the links are used, what exceeds [`KEPT_ROOM`]
-    /// bytes. Once a second is enough: only then does a link with many large commands or replies reserve anew. The result is whether a link
-    /// has unsent bytes, so that its buffer is to be freed later.
+    /// bytes. Once a second is enough unless memory is scarce: a link with many large commands or replies then reserves anew. The result is
+    /// whether a link has unsent bytes, so that its buffer is to be freed later.
     pub fn sweep(&self, proxy: &mut Proxy, is_used: bool) -> bool {
         let kept = if is_used { KEPT_ROOM } else { 0 };
         let mut unsent = false;
@@ -227,6 +225,21 @@ impl Upstreams {
 /// Returns whether the link at a place has reached its mark of unsent bytes.
 pub fn is_marked(proxy: &Proxy, place: usize) -> bool {
     proxy.link_output(place).len() >= LINK_MARK
+}
+
+/// Returns how many bytes are kept for the links of a proxy: what is unsent on them, and for their pending commands, also those of clients that are gone.
+pub fn kept_for_links(proxy: &Proxy) -> u64 {
+    (0..proxy.ring().servers().len()).fold(
+        0,
+        |bytes, place| bytes.saturating_add(link_bytes(proxy, place)),
+    )
+}
+
+/// Returns how many bytes are kept for the link at a place: what is unsent on it, and for its pending commands.
+fn link_bytes(proxy: &Proxy, place: usize) -> u64 {
+    let pending = proxy.waiting(place) as u64;
+    let unsent = proxy.link_output(place).len() as u64;
+    unsent.saturating_add(pending.saturating_mul(PENDING_ROOM))
 }
 
 /// Returns the token of the server at a place. No client has it.

@@ -13,8 +13,8 @@ use crate::rooms::files_of;
 use crate::settings::ProxySettings;
 use crate::woken::Woken;
 use mc_net::{
-    Backlog, Clients, Listed, LoopHandler, Operators, Owed, Report, Room, Stopwatch, poll_timeout,
-    process_number, resident_memory, wall_clock,
+    Awaits, Backlog, Clients, Listed, LoopHandler, Operators, Report, Room, Stopwatch,
+    poll_timeout, process_number, resident_memory, wall_clock,
 };
 use mc_program::{EprintSeldom, ServeError, Ticker, earlier};
 use mc_proxy::MAX_SESSIONS;
@@ -95,11 +95,11 @@ impl<'a> ProxyLoop<'a> {
         let others = files_of(&ring, settings, &operators);
         let freed = Vec::with_capacity(alloc, SERVER_LIMIT)?;
         let woken = Woken::with_capacity(alloc, MAX_SESSIONS)?;
-        let clients = Clients::new(alloc, MAX_SESSIONS, settings.terms.idle)?;
+        let clients = Clients::new(alloc, MAX_SESSIONS, settings.terms.idle, settings.buffers)?;
         let listing = listing_of(alloc, settings, &ring)?;
         let pool = Upstreams::new(alloc, &ring, settings, lookups, random)?;
         Ok(ProxyLoop {
-            handler: ProxyHandler::new(alloc, ring, settings.losses, settings.held)?,
+            handler: ProxyHandler::new(alloc, ring, settings)?,
             alloc,
             listen,
             settings,
@@ -152,28 +152,33 @@ impl<'a> ProxyLoop<'a> {
     }
 
     /// Carries the bytes to servers and from them, and then serves the clients that can go on. Each is served once for all bytes that
-    /// arrived together, so that its answers are sent together.
+    /// arrived together, so that its answers are sent together. While more than half of what may be kept is, the links' empty buffers keep little.
     fn pump_links(&mut self) {
         for _ in 0..MAX_PASSES {
             let others = self.pool.pump_links(
                 &mut self.handler.proxy,
                 &mut self.handler.piece,
-                &mut self.woken,
+                &mut self.woken.sessions,
                 &mut self.freed,
                 self.now,
             );
+            self.clients.count_others(&self.handler);
             self.carried = !others && self.woken.is_empty() && self.freed.is_empty();
             if self.carried {
                 return;
             }
             if others {
                 self.serve_all();
-                continue;
+            } else {
+                if !self.freed.is_empty() {
+                    self.resume();
+                }
+                self.answer();
             }
-            if !self.freed.is_empty() {
-                self.resume();
+            self.clients.shed(&mut self.handler);
+            if self.clients.kept() > self.settings.buffers / 2 {
+                self.pool.sweep(&mut self.handler.proxy, true);
             }
-            self.answer();
         }
     }
 
@@ -202,7 +207,7 @@ impl<'a> ProxyLoop<'a> {
         }
     }
 
-    /// Serves the clients whose commands were answered.
+    /// Serves the clients whose commands were answered. What is kept for one that is ready already, and is served in its turn, is counted now.
     fn answer(&mut self) {
         self.woken.group();
         for _ in 0..self.woken.len() {
@@ -210,17 +215,15 @@ impl<'a> ProxyLoop<'a> {
                 break;
             };
             self.clients.serve(&mut self.handler, key, self.second);
+            self.clients.recount(&self.handler, key);
         }
     }
 
-    /// Takes a client whose commands were answered, and notes how many bytes arrived for it.
+    /// Takes a client whose commands were answered.
     fn take_woken(&mut self) -> Option<usize> {
         for _ in 0..self.woken.len() {
-            let (session, brought) = self.woken.take()?;
-            if let Some(key) = self.handler.key_of(session)
-                && let Some(client) = self.clients.get_mut(key)
-            {
-                client.kept.buffered = client.kept.buffered.saturating_add(brought);
+            let session = self.woken.take()?;
+            if let Some(key) = self.handler.key_of(session) {
                 return Some(key);
             }
         }
@@ -234,11 +237,7 @@ impl<'a> ProxyLoop<'a> {
                 client.kept.release_anew();
             }
         }
-        for _ in 0..self.woken.len() {
-            if self.take_woken().is_none() {
-                break;
-            }
-        }
+        self.woken.sessions.clear();
         self.freed.clear();
         self.clients.serve_all(&mut self.handler, self.second);
     }
@@ -320,7 +319,7 @@ impl<'a> ProxyLoop<'a> {
             self.alloc,
             from,
             self.second,
-            Owed::Replies,
+            Awaits::Replies,
         )?;
         Ok(Some(listed))
     }
@@ -432,6 +431,7 @@ impl<'a, R: Net + Clock + Files + Print + EprintSeldom> LoopHandler<R, Stopwatch
     fn finish(&mut self, rt: &R, accepted: u64) {
         self.show(rt, accepted);
         self.clients.tell(rt, PROGRAM, self.second);
+        self.handler.tell(rt, self.second);
         if self.second == self.rested {
             return;
         }

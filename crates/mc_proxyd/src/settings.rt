@@ -1,12 +1,20 @@
 //! The settings that a proxy starts with.
-ghost use Rattle.std.specs.Prelude.{IfSome, IsSomeAnd, MatchBool};
+ghost use Rattle.std.specs.Prelude.{◌≡◌, ◌/◌, min, IfSome, IsSomeAnd, MatchBool};
 ghost use Rattle.mc_proxyd.specs.Names.{AreSpelled, HasName, HaveName, IsSpelled, MayLookUp, NeedsNoLookUp};
 
 use crate::servers::NamedServer;
 use mc_program::Terms;
 use mc_proxy::Losses;
 use mc_ring::Address;
+use std::fmt;
+use std::fmt::{Display, Formatter};
 use std::net::SocketAddrV4;
+
+/// The most bytes that are kept for all clients and links, by default: 256 MiB.
+const USUAL_BUFFERS: u64 = 268_435_456;
+
+/// The most bytes that an answer may have, by default: 256 MiB.
+const USUAL_ANSWER: u64 = 268_435_456;
 
 /// The settings that a proxy starts with, beside its ring.
 #[derive(Drop)]
@@ -15,8 +23,12 @@ pub struct ProxySettings {
     pub terms: Terms,
     /// The answer to a request whose command is lost.
     pub losses: Losses,
-    /// If more bytes are buffered for one client, its turns and reads stop until it has no pending answer.
+    /// If more bytes are kept for one client with pending answers, its turns and reads stop until it is fewer.
     pub held: u64,
+    /// The most bytes that are kept for all clients and links.
+    pub buffers: u64,
+    /// The most bytes that an answer may have: a request whose replies are more closes its connection.
+    pub answer: u64,
     /// The timeout of a server's replies in milliseconds; 0 for none. A server whose oldest pending command waits for longer loses its link, and
     /// so does one of which any command waits for four times as long. While bytes arrive, a command may wait longer.
     pub timeout: u64,
@@ -29,6 +41,14 @@ pub struct ProxySettings {
 }
 
 impl ProxySettings {
+    /// Returns the most bytes that may be kept for one request once it is the oldest one: [`answer`](ProxySettings::answer), and no more than half of
+    /// [`buffers`](ProxySettings::buffers), since the answer is a copy of what is kept.
+    pub fn answer_limit(&self) -> u64
+        ensures { result ≡ min self.now.answer (self.now.buffers / 2) }
+    {
+        self.answer.min(self.buffers / 2)
+    }
+
     /// Returns whether a host's name may have to be looked up: one of its words has it, or a file, which may have another one
     /// later.
     pub fn may_look_up(&self) -> bool
@@ -42,6 +62,22 @@ impl ProxySettings {
             return true;
         }
         have_name(self.addresses.as_slice())
+    }
+}
+
+/// Prints the answer to lost commands, and the limits of buffers and answers, if they are not at their defaults.
+impl Display for ProxySettings {
+    fn fmt<W: fmt::Write>(&self, f: &mut Formatter<W>) -> fmt::Result {
+        if self.losses == Losses::Missed {
+            f.write_str(" lost missed")?;
+        }
+        if self.buffers != USUAL_BUFFERS {
+            write!(f, " buffers {}", self.buffers)?;
+        }
+        if self.answer != USUAL_ANSWER {
+            write!(f, " answer {}", self.answer)?;
+        }
+        Ok(())
     }
 }
 

@@ -1,7 +1,7 @@
 //! An upstream server: its socket, if there is one, the state of its connection, and its notices.
 ghost use Rattle.std.specs.Prelude.{◌<◌, length};
 
-use crate::delays::delay_after;
+use crate::delays::{delay_after, silences_after};
 use crate::limits::{CONNECT_MILLIS, LINK_KEEPALIVE, NEXT_DELAY, NOTICE_DELAY, PROBE_MILLIS};
 use crate::lookups::{Lookup, Lookups, NextLookup, next_by};
 use crate::notices::{Cause, Notice, Notices, tell};
@@ -54,6 +54,12 @@ pub struct Upstream {
     next: u64,
     /// How many tries failed in a row.
     failures: u32,
+    /// How many links in a row were lost while the server answered none of their commands.
+    silences: u32,
+    /// Whether a command got its reply since the link is up.
+    answered: bool,
+    /// A random number, which decides when the next try begins if the link is lost.
+    random: u64,
     /// Whether the server has answered the first try, or that has failed; true too if nobody waits for that.
     pub tried: bool,
     readiness: Readiness,
@@ -63,16 +69,14 @@ pub struct Upstream {
     waits: Waits,
     /// How often its link was lost.
     losses: u64,
-    /// How many bytes have arrived since the last reply but one was taken: no fewer than are buffered of a partial reply.
-    unread: u64,
-    /// How many bytes the replies have at most that its last pump took.
-    pub brought: u64,
     /// How many bytes its last pump read.
     came: u64,
     /// The bytes that the last pump sent to the server.
     sent: u64,
     /// How many replies its last pump took.
     replies: usize,
+    /// How many commands were pending before its last pump.
+    pending: usize,
     /// Why the system has ended the connection, if it did.
     failure: Option<Cause>,
 }
@@ -89,17 +93,19 @@ impl Upstream {
             begun: 0,
             next: 0,
             failures: 0,
+            silences: 0,
+            answered: false,
+            random: 0,
             tried: false,
             readiness: Readiness::new(),
             stirred: false,
             notices: Notices::new(Notice::Back),
             waits: Waits::new(),
             losses: 0,
-            unread: 0,
-            brought: 0,
             came: 0,
             sent: 0,
             replies: 0,
+            pending: 0,
             failure: None,
         }
     }
@@ -148,6 +154,7 @@ impl Upstream {
         now: u64,
         random: u64,
     ) {
+        self.random = random;
         match turn_by(self.stage(), self.begun, self.next, now) {
             ConnectTurn::Rest => {}
             ConnectTurn::Begin => {
@@ -325,6 +332,7 @@ impl Upstream {
             State::Probing(stream, _) if proxy.back(server).is_ok() => {
                 self.tried = true;
                 self.failures = 0;
+                self.answered = false;
                 self.state = State::Up(stream);
                 self.notices.note(Notice::Back);
             }
@@ -376,23 +384,25 @@ impl Upstream {
         self.readiness = input.readiness;
         self.stirred = pumped == Pumped::Again;
         let fewer = before.saturating_sub(proxy.waiting(server));
+        self.pending = before;
         if proxy.is_up(server) {
-            self.waits.answer(fewer);
+            self.note_answered(fewer);
         } else {
             self.waits.lose(fewer);
         }
         self.came = tally.read;
         self.sent = tally.written;
         self.replies = fewer;
-        self.note_brought(tally.read, fewer > 0);
         pumped
     }
 
-    /// Records how many bytes arrived, and whether a reply was taken. The bytes after that reply are part of the next one.
-    fn note_brought(&mut self, came: u64, taken: bool) {
-        let unread = self.unread.saturating_add(came);
-        self.brought = if taken { unread } else { 0 };
-        self.unread = if taken { came } else { unread };
+    /// Records how many commands got their replies. With the first reply of a link its server is no longer one that answers no command.
+    fn note_answered(&mut self, count: usize) {
+        self.waits.answer(count);
+        if count > 0 {
+            self.answered = true;
+            self.silences = 0;
+        }
     }
 
     /// Records how many commands are pending after a pump at a moment, so that a server that does not answer in time is detected.
@@ -407,14 +417,20 @@ impl Upstream {
     }
 
     /// Drops the connection, whose pump has failed, and loses the link if it is still up.
-    pub fn lose(&mut self, proxy: &mut Proxy, server: usize) {
+    pub fn lose(&mut self, proxy: &mut Proxy, server: usize, now: u64) {
         let cause = self.cause_of_loss(proxy, server);
-        self.lose_by(proxy, server, cause);
+        self.lose_by(proxy, server, cause, now);
     }
 
     /// Gives the connection up for a cause, and loses the link if it is still up. The connection is reset: a command that is lost and undelivered
-    /// must not reach the server after later ones.
-    pub fn lose_by(&mut self, proxy: &mut Proxy, server: usize, cause: Cause) {
+    /// must not reach the server after later ones. If the server answered none of its commands, it is tried again as late as after a failed try.
+    pub fn lose_by(&mut self, proxy: &mut Proxy, server: usize, cause: Cause, now: u64) {
+        let pending = self.pending_at_loss(proxy, server);
+        self.silences = silences_after(self.silences, self.answered, pending);
+        if self.silences > 0 {
+            let delay = delay_after(self.silences, self.random);
+            self.next = self.next.max(now.saturating_add(delay));
+        }
         self.waits.lose(proxy.waiting(server));
         self.losses = self.losses.saturating_add(1);
         // A protocol violation has lost the link before.
@@ -423,9 +439,17 @@ impl Upstream {
             reset(stream);
         }
         self.stirred = false;
-        self.unread = 0;
         self.failure = None;
         self.notices.note(Notice::Lost(cause));
+    }
+
+    /// Returns how many commands are pending, or were before a protocol violation lost the link.
+    fn pending_at_loss(&self, proxy: &Proxy, server: usize) -> usize {
+        if proxy.is_up(server) {
+            proxy.waiting(server)
+        } else {
+            self.pending
+        }
     }
 
     /// Moves its server to another address from a moment on, at which it is tried. The connection to the old one is lost; the result is whether
@@ -440,7 +464,7 @@ impl Upstream {
     ) -> bool {
         let was_up = self.is_up();
         if was_up {
-            self.lose_by(proxy, server, Cause::Moved);
+            self.lose_by(proxy, server, Cause::Moved, now);
         }
         self.notices.take_as_said(Notice::Lost(Cause::Moved));
         if let Some(lookup) = &mut self.lookup {
@@ -450,6 +474,7 @@ impl Upstream {
         self.stirred = false;
         self.address = address;
         self.failures = 0;
+        self.silences = 0;
         self.next = now;
         self.tried = true;
         was_up

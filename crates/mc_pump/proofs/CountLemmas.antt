@@ -21,6 +21,8 @@ use Rattle.mc_pump.specs.declared.limits.TheConstants.{UNSENT_MARK}
 use Rattle.mc_server.specs.declared.limits.TheConstants.{WORK_BYTES}
 use Rattle.mc_pump.proofs.StretchLemmas.{closing_takes_none, idle_takes_none, none_takes_none, stretch_closing, stretch_idle, stretch_none, stretch_then, stretch_took, taken_entry, then_takes_both, took_takes_one}
 use Rattle.mc_pump.proofs.RoundLemmas.{the_open}
+use Rattle.mc_pump.proofs.UnsentLemmas.{unsent_closing, unsent_idle, unsent_same, unsent_then}
+use Rattle.mc_pump.specs.Unsent.{IsUnsentWithin}
 
 -- sums of 64 bits, or of any other number
 sum_goes_on : (m a b c x y : ℕ) → b % m ≡ (a + x) % m → c % m ≡ (b + y) % m → c % m ≡ (a + (x + y)) % m
@@ -60,17 +62,17 @@ pub counts_still : (s : CacheState) (history : List ServedRequest) (count count'
 counts_still s history count count' none same =
     let P : List ServedRequest → Type 0 = λ es. CountsWithin s es count count in
     let Q : Counted → Type 0 = λ n. CountsWithin s history count n in
-    let still : CountsWithin s [] count count = record { refused = sum_stays (2 ^ 64) count.refused; within = tt; left = omega arith } in
+    let still : CountsWithin s [] count count = record { refused = sum_stays (2 ^ 64) count.refused; within = tt; left = omega arith; most = refl } in
     subst Q (sym same) (subst P (sym none) still)
 
 -- one entry was served
 pub counts_one : (s : CacheState) (history : List ServedRequest) (e : ServedRequest) (count count' : Counted) → history ≡ e ∷ []
     → count'.refused % 2 ^ 64 ≡ (count.refused + (refusal_in (answer_after s e) + 0)) % 2 ^ 64 → 0 < count.left → count'.left ≡ count.left - work_at s e
-    → CountsWithin s history count count'
-counts_one s history e count count' one refused some left =
+    → count'.most ≡ count.most → CountsWithin s history count count'
+counts_one s history e count count' one refused some left most =
     let P : List ServedRequest → Type 0 = λ es. CountsWithin s es count count' in
     let more : work_at s e ≡ work_at s e + 0 = omega arith in
-    let counted : CountsWithin s (e ∷ []) count count' = record { refused = refused; within = (some, tt); left = left ∙ ap (λ (n : ℕ). count.left - n) more } in
+    let counted : CountsWithin s (e ∷ []) count count' = record { refused = refused; within = (some, tt); left = left ∙ ap (λ (n : ℕ). count.left - n) more; most = most } in
     subst P (sym one) counted
 
 -- one stretch after another
@@ -89,6 +91,7 @@ counts_then number moment count between count' a b c came more went yet h k firs
       refused = subst P (sym refusals) (sum_goes_on (2 ^ 64) count.refused between.refused count'.refused (refusals_in a.cache h.history) (refusals_in middle k.history) first.refused later.refused);
       within = within-append count.left a.cache h.history k.history first.within (subst (λ (n : ℕ). IsWithin n middle k.history) first.left later.within);
       left = omega (arith, first.left, later.left, work);
+      most = later.most ∙ first.most;
     } in
     subst Q (sym joined) both
 
@@ -99,6 +102,7 @@ turns_none number moment count s there =
     record {
       stretch = stretch_none number moment s c.0 c.1;
       counted = counts_still s.cache _ count count (none_takes_none number moment s c.0 c.1) refl;
+      unsent = unsent_same count.most (connection_at s number);
     }
 
 -- turns after turns
@@ -107,6 +111,7 @@ turns_then : (number moment : ℕ) (count between count' : Counted) (a b c : Ser
 turns_then number moment count between count' a b c h k = record {
   stretch = stretch_then number moment a b c [] [] [] [] h.stretch k.stretch;
   counted = counts_then number moment count between count' a b c [] [] [] [] h.stretch k.stretch h.counted k.counted;
+  unsent = unsent_then count.most between.most (connection_at a number) (connection_at b number) (connection_at c number) h.counted.most h.unsent k.unsent;
 }
 
 -- a turn found nothing, or that nothing is read any more
@@ -116,6 +121,7 @@ turns_idle number moment count between a b c h steps =
     turns_then number moment count between between a b c h (record {
       stretch = stretch_idle number moment b c steps;
       counted = counts_still b.cache _ between between (idle_takes_none number moment b c steps) refl;
+      unsent = unsent_idle number moment between.most b c steps;
     })
 
 pub turns_closing : (number moment : ℕ) (count between : Counted) (a b c : ServerState) → TakesTurns number moment a b count between → Steps number b c (IsTurn number moment Closing)
@@ -124,6 +130,7 @@ turns_closing number moment count between a b c h steps =
     turns_then number moment count between between a b c h (record {
       stretch = stretch_closing number moment b c steps;
       counted = counts_still b.cache _ between between (closing_takes_none number moment b c steps) refl;
+      unsent = unsent_closing number moment between.most b c steps;
     })
 
 -- a turn that took something appended its answer
@@ -154,8 +161,9 @@ work_of_taken o c what more s was first = ap (λ (x : Option ConnectionState). w
 turn_took : (number moment work : ℕ) (count count' : Counted) (answer : List ℕ) (old new : ServerState) → Steps number old new (IsTurn number moment Took) → length (output_of (connection_at old number)) < UNSENT_MARK
     → 0 < count.left → count.left < 2 ^ 64 → work ≡ min (work_of_first (waiting_of (connection_at old number)) old.cache) (2 ^ 64 - 1)
     → answer ≡ drop (length (output_of (connection_at old number))) (output_of (connection_at new number)) → count'.refused ≡ (count.refused + refusal_in answer) % 2 ^ 64
-    → count'.left ≡ count.left - (work + length answer / WORK_BYTES) → TakesTurns number moment old new count count'
-turn_took number moment work count count' answer old new steps below some range costs is refused left =
+    → count'.left ≡ count.left - (work + length answer / WORK_BYTES) → count'.most ≡ count.most
+    → IsUnsentWithin count.most (connection_at old number) (connection_at new number) → TakesTurns number moment old new count count'
+turn_took number moment work count count' answer old new steps below some range costs is refused left most unsent =
     let e : ServedRequest = taken_entry number moment old new steps in
     let own : answer ≡ answer_after old.cache e =
     is ∙ ap (λ (bytes : List ℕ). drop (length (output_of (connection_at old number))) bytes) (turn_output number moment old new steps)
@@ -168,13 +176,15 @@ turn_took number moment work count count' answer old new steps below some range 
     record {
       stretch = stretch_took number moment old new steps below;
       counted = counts_one old.cache (stretch_took number moment old new steps below).history e count count' (took_takes_one number moment old new steps below)
-          (subst Q own (sum_of_one (2 ^ 64) count.refused count'.refused (refusal_in answer) refused)) some (subst R own all);
+          (subst Q own (sum_of_one (2 ^ 64) count.refused count'.refused (refusal_in answer) refused)) some (subst R own all) most;
+      unsent = unsent;
     }
 
 pub turns_took : (number moment work : ℕ) (count between count' : Counted) (answer : List ℕ) (a b c : ServerState) → TakesTurns number moment a b count between → Steps number b c (IsTurn number moment Took)
     → length (output_of (connection_at b number)) < UNSENT_MARK → 0 < between.left → between.left < 2 ^ 64
     → work ≡ min (work_of_first (waiting_of (connection_at b number)) b.cache) (2 ^ 64 - 1)
     → answer ≡ drop (length (output_of (connection_at b number))) (output_of (connection_at c number)) → count'.refused ≡ (between.refused + refusal_in answer) % 2 ^ 64
-    → count'.left ≡ between.left - (work + length answer / WORK_BYTES) → TakesTurns number moment a c count count'
-turns_took number moment work count between count' answer a b c h steps below some range costs is refused left =
-    turns_then number moment count between count' a b c h (turn_took number moment work between count' answer b c steps below some range costs is refused left)
+    → count'.left ≡ between.left - (work + length answer / WORK_BYTES) → count'.most ≡ between.most
+    → IsUnsentWithin between.most (connection_at b number) (connection_at c number) → TakesTurns number moment a c count count'
+turns_took number moment work count between count' answer a b c h steps below some range costs is refused left most unsent =
+    turns_then number moment count between count' a b c h (turn_took number moment work between count' answer b c steps below some range costs is refused left most unsent)

@@ -22,6 +22,8 @@ use Rattle.mc_pump.specs.declared.limits.TheConstants.{UNSENT_MARK}
 use Rattle.mc_server.specs.declared.limits.TheConstants.{WORK_BYTES}
 use Rattle.mc_pump.proofs.StretchLemmas.{sent_takes_none, stretch_sent, stretch_then, stretch_took, taken_entry, took_takes_one, updated-twice}
 use Rattle.mc_pump.proofs.RoundLemmas.{is_open}
+use Rattle.mc_pump.proofs.UnsentLemmas.{unsent_then}
+use Rattle.mc_pump.specs.Unsent.{IsUnsentWithin}
 use Rattle.mc_pump.proofs.CountLemmas.{counts_one, counts_still, counts_then, spent, turns_closing, turns_idle, turns_none, turns_took, work_of_taken}
 
 -- a step that is another one too
@@ -40,13 +42,13 @@ stepped P Q number old new steps step = record {
 pub gathers_none : (number moment : ℕ) (count : Counted) (s : ServerState) (written : Option (List ℕ)) → IsSome (connection_at s number) → GathersTurns number moment s s written written count count
 gathers_none number moment count s written there =
     let turns = turns_none number moment count s there in
-    record { went = []; stretch = turns.stretch; appended = Appends-nil written; counted = turns.counted }
+    record { went = []; stretch = turns.stretch; appended = Appends-nil written; counted = turns.counted; unsent = turns.unsent }
 
 -- turns of which nothing was written
 gathers_turns : (number moment : ℕ) (count count' : Counted) (a b : ServerState) (written written' : Option (List ℕ)) → TakesTurns number moment a b count count' → Appends written written' []
     → GathersTurns number moment a b written written' count count'
 gathers_turns number moment count count' a b written written' turns nothing =
-    record { went = []; stretch = turns.stretch; appended = nothing; counted = turns.counted }
+    record { went = []; stretch = turns.stretch; appended = nothing; counted = turns.counted; unsent = turns.unsent }
 
 -- turns after turns
 gathers_then : (number moment : ℕ) (count between count' : Counted) (a b c : ServerState) (written sent written' : Option (List ℕ)) → GathersTurns number moment a b written sent count between
@@ -56,6 +58,7 @@ gathers_then number moment count between count' a b c written sent written' h k 
   stretch = stretch_then number moment a b c [] [] h.went k.went h.stretch k.stretch;
   appended = Appends-trans written sent written' h.went k.went h.appended k.appended;
   counted = counts_then number moment count between count' a b c [] [] h.went k.went h.stretch k.stretch h.counted k.counted;
+  unsent = unsent_then count.most between.most (connection_at a number) (connection_at b number) (connection_at c number) h.counted.most h.unsent k.unsent;
 }
 
 -- nothing more was taken or written
@@ -66,6 +69,7 @@ gathers_still number moment count between a b written sent written' h nothing = 
   stretch = h.stretch;
   appended = subst (λ (bytes : List ℕ). Appends written written' bytes) (append-nil h.went) (Appends-trans written sent written' h.went [] h.appended nothing);
   counted = h.counted;
+  unsent = h.unsent;
 }
 
 -- a turn found nothing, or that nothing is read any more
@@ -109,11 +113,12 @@ pub gathers_took : (number moment work : ℕ) (count between count' : Counted) (
     → length (output_of (connection_at b number)) < UNSENT_MARK → 0 < between.left → between.left < 2 ^ 64
     → work ≡ min (work_of_first (waiting_of (connection_at b number)) b.cache) (2 ^ 64 - 1)
     → answer ≡ drop (length (output_of (connection_at b number))) (output_of (connection_at c number)) → count'.refused ≡ (between.refused + refusal_in answer) % 2 ^ 64
-    → count'.left ≡ between.left - (work + length answer / WORK_BYTES) → GathersTurns number moment a c written written' count count'
-gathers_took number moment work count between count' answer a b c written sent written' h steps nothing below some range costs is refused left =
+    → count'.left ≡ between.left - (work + length answer / WORK_BYTES) → count'.most ≡ between.most
+    → IsUnsentWithin between.most (connection_at b number) (connection_at c number) → GathersTurns number moment a c written written' count count'
+gathers_took number moment work count between count' answer a b c written sent written' h steps nothing below some range costs is refused left most unsent =
     let none = turns_none number moment between b (is_open (connection_at b number) steps.before steps.was) in
     gathers_then number moment count between count' a b c written sent written' h
-    (gathers_turns number moment between count' b c sent written' (turns_took number moment work between between count' answer b b c none steps below some range costs is refused left) nothing)
+    (gathers_turns number moment between count' b c sent written' (turns_took number moment work between between count' answer b b c none steps below some range costs is refused left most unsent) nothing)
 
 -- the connection and the server once a turn was taken, before any of its answer was written
 abbrev whole_of : (number moment went : ℕ) (old new : ServerState) (written written' : Option (List ℕ)) → Steps number old new (TakesOut number moment went written written') → ConnectionState
@@ -175,9 +180,10 @@ shown_length before answer whole after went unsent kept put left some fits is no
 gathers_out : (number moment went work unsent kept : ℕ) (count count' : Counted) (old new : ServerState) (written written' : Option (List ℕ)) → Steps number old new (TakesOut number moment went written written') → 0 < went
     → length (output_of (connection_at old number)) < UNSENT_MARK → unsent ≡ length (output_of (connection_at old number)) → kept ≡ length (output_of (connection_at new number))
     → 0 < count.left → count.left < 2 ^ 64 → work ≡ min (work_of_first (waiting_of (connection_at old number)) old.cache) (2 ^ 64 - 1)
-    → count'.refused ≡ count.refused → count'.left ≡ count.left - (work + (went + kept - unsent) / WORK_BYTES) → GathersTurns number moment old new written written' count count'
+    → count'.refused ≡ count.refused → count'.left ≡ count.left - (work + (went + kept - unsent) / WORK_BYTES) → count'.most ≡ count.most
+    → IsUnsentWithin count.most (connection_at old number) (connection_at new number) → GathersTurns number moment old new written written' count count'
 unfolding first_took
-gathers_out number moment went work unsent kept count count' old new written written' steps some below was_unsent is_kept any range costs refused left =
+gathers_out number moment went work unsent kept count count' old new written written' steps some below was_unsent is_kept any range costs refused left most bounded =
     let put = steps.step.put in
     let whole = whole_of number moment went old new written written' steps in
     let middle = middle_of number moment went old new written written' steps in
@@ -201,23 +207,25 @@ gathers_out number moment went work unsent kept count count' old new written wri
     let R : ℕ → Type 0 = λ n. count'.left ≡ count.left - (work_of e.what old.cache + n / WORK_BYTES) in
     let counted : CountsWithin old.cache took.history count count' =
     counts_one old.cache took.history e count count' (took_takes_one number moment old middle first below)
-    (ap (λ (n : ℕ). n % 2 ^ 64) refused ∙ count_stays (2 ^ 64) count.refused (refusal_in (answer_after old.cache e)) none) any (subst R long all) in
+    (ap (λ (n : ℕ). n % 2 ^ 64) refused ∙ count_stays (2 ^ 64) count.refused (refusal_in (answer_after old.cache e)) none) any (subst R long all) most in
     record {
       went = take went put.whole;
       stretch = stretch_then number moment old middle new [] [] [] (take went put.whole) took (stretch_sent number moment went whole middle new open_yet sent);
       appended = put.wrote.1;
       counted = counts_then number moment count count' count' old middle new [] [] [] (take went put.whole) took (stretch_sent number moment went whole middle new open_yet sent)
           counted (counts_still middle.cache _ count' count' (sent_takes_none number moment went whole middle new open_yet sent) refl);
+      unsent = bounded;
     }
 
 pub gathers_showed : (number moment went work unsent kept : ℕ) (count between count' : Counted) (a b c : ServerState) (written sent written' : Option (List ℕ)) → GathersTurns number moment a b written sent count between
     → Steps number b c (TakesOut number moment went sent written') → 0 < went → length (output_of (connection_at b number)) < UNSENT_MARK
     → unsent ≡ length (output_of (connection_at b number)) → kept ≡ length (output_of (connection_at c number))
     → 0 < between.left → between.left < 2 ^ 64 → work ≡ min (work_of_first (waiting_of (connection_at b number)) b.cache) (2 ^ 64 - 1)
-    → count'.refused ≡ between.refused → count'.left ≡ between.left - (work + (went + kept - unsent) / WORK_BYTES) → GathersTurns number moment a c written written' count count'
-gathers_showed number moment went work unsent kept count between count' a b c written sent written' h steps some below was_unsent is_kept any range costs refused left =
+    → count'.refused ≡ between.refused → count'.left ≡ between.left - (work + (went + kept - unsent) / WORK_BYTES) → count'.most ≡ between.most
+    → IsUnsentWithin between.most (connection_at b number) (connection_at c number) → GathersTurns number moment a c written written' count count'
+gathers_showed number moment went work unsent kept count between count' a b c written sent written' h steps some below was_unsent is_kept any range costs refused left most bounded =
     gathers_then number moment count between count' a b c written sent written' h
-    (gathers_out number moment went work unsent kept between count' b c sent written' steps some below was_unsent is_kept any range costs refused left)
+    (gathers_out number moment went work unsent kept between count' b c sent written' steps some below was_unsent is_kept any range costs refused left most bounded)
 
 -- a turn that took something leaves one less to take
 pub gathered_one : (number moment went : ℕ) (old new : ServerState) (written written' : Option (List ℕ)) → Steps number old new (TakesOut number moment went written written')
@@ -239,6 +247,7 @@ pumps_gathered number moment count count' pump a b unread written written' ended
   carried = carried_as pump unread unread written written' ended ended [] h.went (carries_sent unread written written' ended h.went h.appended);
   left = left;
   counted = h.counted;
+  unsent = h.unsent;
 }
 
 -- turns of which a writer that keeps nothing took nothing
@@ -254,4 +263,5 @@ pumps_ungathered number moment count count' pump a b unread written ended h left
       carried = carried_as pump unread unread written written ended ended [] h.went (carries_sent unread written written ended h.went none);
       left = left;
       counted = h.counted;
+      unsent = h.unsent;
     }

@@ -3,5 +3,6 @@ pub mod PumpLemmas
 pub mod RoundLemmas
 pub mod LawLemmas
 pub mod CountLemmas
+pub mod UnsentLemmas
 pub mod ReadLemmas
 pub mod GatherLemmas

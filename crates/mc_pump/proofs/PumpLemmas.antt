@@ -10,11 +10,12 @@ use Rattle.mc_stream.specs.declared.outcomes.Pumped.{Pumped}
 use Rattle.mc_stream.specs.declared.outcomes.Pumped.TheVariants.{Again, Blocked, Done, Failed}
 use Rattle.mc_stream.proofs.SideLemmas.{came_any, carried_as, carried_then, carried_unheard, carries_brought, carries_none, carries_sent, stop_of_read, went_any}
 use Rattle.mc_pump.proofs.CountLemmas.{counts_still, counts_then}
+use Rattle.mc_pump.proofs.UnsentLemmas.{unsent_same, unsent_then, unsent_untaken}
 use Rattle.mc_pump.proofs.StretchLemmas.{none_takes_none, stretch_none, stretch_then}
 
 -- what a watch has counted at the start of a pump
-abbrev pub begun : ℕ → Counted
-begun refused = record { refused = refused; left = QUANTUM }
+abbrev pub begun : (refused most : ℕ) → Counted
+begun refused most = record { refused = refused; left = QUANTUM; most = most }
 
 -- nothing was done yet
 pub pumps_none : (number moment : ℕ) (count : Counted) (s : ServerState) (c : ConnectionState) (unread written : Option (List ℕ)) (ended : Bool) → connection_at s number ≡ Some c
@@ -26,6 +27,7 @@ pumps_none number moment count s c unread written ended was = record {
   carried = carries_none unread written ended;
   left = tt;
   counted = counts_still s.cache _ count count (none_takes_none number moment s c was) refl;
+  unsent = unsent_same count.most (connection_at s number);
 }
 
 -- a pump that goes on
@@ -39,6 +41,7 @@ pumps_then number moment count between count' pump a b c unread middle unread' w
   carried = carried_then pump unread middle unread' written sent written' ended later ended' h.came k.came h.went k.went h.carried k.carried;
   left = k.left;
   counted = counts_then number moment count between count' a b c h.came k.came h.went k.went h.stretch k.stretch h.counted k.counted;
+  unsent = unsent_then count.most between.most (connection_at a number) (connection_at b number) (connection_at c number) h.counted.most h.unsent k.unsent;
 }
 
 -- after a stop of a side nothing is left to prove
@@ -58,6 +61,7 @@ pumps_turns number moment count count' pump a b unread written ended h left = re
   carried = carried_as pump unread unread written written ended ended [] [] (carries_none unread written ended);
   left = left;
   counted = h.counted;
+  unsent = h.unsent;
 }
 
 -- a write that took bytes
@@ -70,6 +74,7 @@ pumps_sent number moment count count' moved a b unread written written' ended h 
   carried = carries_sent unread written written' ended h.went (went_any moved written written' h.went (b ≡ a) h.how);
   left = tt;
   counted = counts_still a.cache h.stretch.history count count' h.untaken h.uncounted;
+  unsent = unsent_untaken number moment count.most a b _ _ h.stretch h.untaken;
 }
 
 -- a write that stopped the pump
@@ -82,6 +87,7 @@ pumps_unsent number moment count count' pump a b unread written written' ended h
   carried = carried_as pump unread unread written written' ended ended [] h.went (carries_sent unread written written' ended h.went h.how.1);
   left = left_by_side pump ended (connection_at b number) h.how.0;
   counted = counts_still a.cache h.stretch.history count count' h.untaken h.uncounted;
+  unsent = unsent_untaken number moment count.most a b _ _ h.stretch h.untaken;
 }
 
 -- a read after which the pump goes on
@@ -96,6 +102,7 @@ pumps_heard number moment count count' moved pump a b unread unread' written end
       (carries_brought unread unread' written ended ended' h.came open_yet (came_any moved unread unread' ended' h.came (b ≡ a) h.how));
   left = left;
   counted = counts_still a.cache h.stretch.history count count' h.untaken h.uncounted;
+  unsent = unsent_untaken number moment count.most a b _ _ h.stretch h.untaken;
 }
 
 -- a read that stopped the pump
@@ -108,6 +115,7 @@ pumps_unheard number moment count count' pump a b unread unread' written ended e
   carried = carried_unheard pump unread unread' written ended ended' h.came open_yet h.how;
   left = left_by_side pump ended' (connection_at b number) (stop_of_read pump unread unread' ended' h.came h.how);
   counted = counts_still a.cache h.stretch.history count count' h.untaken h.uncounted;
+  unsent = unsent_untaken number moment count.most a b _ _ h.stretch h.untaken;
 }
 
 -- turns, a write, and then a stop
@@ -125,13 +133,14 @@ stopped number moment count between count' moved pump a b c unread written writt
       carried = carried_as pump unread unread written written' ended ended both.came both.went both.carried;
       left = left;
       counted = both.counted;
+      unsent = both.unsent;
     }
 
 -- a pump is a part that begins with a quantum
-pub pumped : (number moment refused : ℕ) (count' : Counted) (pump : Pumped) (a b : ServerState) (unread unread' written written' : Option (List ℕ)) (ended ended' : Bool)
-    → PumpsPart number moment pump a b unread unread' written written' ended ended' (begun refused) count'
+pub pumped : (number moment refused most : ℕ) (count' : Counted) (pump : Pumped) (a b : ServerState) (unread unread' written written' : Option (List ℕ)) (ended ended' : Bool)
+    → PumpsPart number moment pump a b unread unread' written written' ended ended' (begun refused most) count'
     → Pumps number moment pump a b unread unread' written written' ended ended' refused count'.refused
-pumped number moment refused count' pump a b unread unread' written written' ended ended' h = record {
+pumped number moment refused most count' pump a b unread unread' written written' ended ended' h = record {
   came = h.came;
   went = h.went;
   stretch = h.stretch;

@@ -1,12 +1,14 @@
 -- A read straight into a data block that the server keeps apart.
-use Rattle.std.proofs.Common.{◌≡◌, ℕ, suc, zero, ◌<◌, ◌==◌, ◌||◌, nat_lt, Bool, true, false, Result, Ok, Err, List, [], length, take, Option, IsSome, refl, sym, subst, arith}
+use Rattle.std.proofs.Common.{◌≡◌, ℕ, suc, zero, ◌<◌, ◌==◌, ◌||◌, nat_lt, Bool, true, false, Result, Ok, Err, List, [], length, take, Option, None, Some, IsSome, refl, sym, subst, arith}
 use Rattle.std.proofs.lemmas.Bool.Decides.{nat_tests}
 use Rattle.std.specs.Prelude.{IfOk, IfErr}
 use Rattle.mc_request_reader.specs.Reads.{ReadsBy}
 use Rattle.mc_server.specs.ServerState.{ServerState, connection_at, output_of}
 use Rattle.mc_server.specs.Turns.{Feeds, Steps}
-use Rattle.mc_stream.specs.Sides.{Brings, HowItCame, MovesNothing, Reads}
+use Rattle.std.specs.Io.KnownBytes.{Keeps}
+use Rattle.mc_stream.specs.Sides.{Brings, HowItCame, MovesNothing, Reads, StopsRead}
 use Rattle.mc_stream.specs.declared.outcomes.Pumped.{Pumped}
+use Rattle.mc_stream.specs.declared.outcomes.Pumped.TheVariants.{Again}
 use Rattle.mc_stream.proofs.SideLemmas.{read_none, read_stops}
 use Rattle.mc_pump.specs.Counts.{Counted}
 use Rattle.mc_pump.specs.Rounds.{Receives, moved_of}
@@ -54,3 +56,11 @@ receives_read number moment count (Err error) side old new unread unread' ended'
     let R : ServerState → Type 0 = λ s. Receives number moment (moved_of side ended') old s unread unread' ended' count count in
     subst R (sym h.stays) (receives_still number moment count (moved_of side ended') old unread unread' ended' there
     (how_unread side h.piece unread unread' ended' (old ≡ old) err.0 err.1 refl reads))
+
+-- nothing was read
+keeps_itself : (unread : Option (List ℕ)) → Keeps unread unread
+keeps_itself None = tt
+keeps_itself (Some bytes) = refl
+
+pub reads_nothing : (unread : Option (List ℕ)) (ended : Bool) → ended ≡ false → StopsRead Again unread unread ended []
+reads_nothing unread ended goes_on = read_stops Again [] ended unread unread (tt, goes_on, keeps_itself unread)

@@ -21,16 +21,20 @@ refusals_in s (e ∷ es) = refusal_in (answer_after s e) + refusals_in (cache_af
 abbrev pub Counts : CacheState → List ServedRequest → ℕ → ℕ → Type 0
 Counts s history count count' = count' % 2 ^ 64 ≡ (count + refusals_in s history) % 2 ^ 64
 
--- what a watch has counted: the stores that were refused for lack of memory, and the work that is left to its pump
+-- what a watch has counted: the stores that were refused for lack of memory, and the work that is left to its pump; and how many bytes its
+-- connection may keep
 pub record Counted : Type 0 where
   pub refused : ℕ
   pub left : ℕ
+  pub most : ℕ
 
 abbrev pub counted_by : Watch → Counted
-counted_by watch = record { refused = watch.no_memory; left = watch.left }
+counted_by watch = record { refused = watch.no_memory; left = watch.left; most = watch.most }
 
--- the refused stores of a history are counted, each of its entries is served only while work is left, and its work is spent
+-- the refused stores of a history are counted, each of its entries is served only while work is left, and its work is spent; what the connection
+-- may keep stays as it is
 pub record CountsWithin (s : CacheState) (history : List ServedRequest) (count count' : Counted) : Type 0 where
   pub refused : Counts s history count.refused count'.refused
   pub within : IsWithin count.left s history
   pub left : count'.left ≡ count.left - work_in s history
+  pub most : count'.most ≡ count.most

@@ -6,6 +6,7 @@ use Rattle.mc_stream.specs.Sides.{CarriesBy, HowItCame, HowItWent}
 use Rattle.mc_pump.specs.Counts.{Counted, CountsWithin}
 use Rattle.mc_pump.specs.Pumps.{Leaves}
 use Rattle.mc_pump.specs.Stretches.{ConnectionStretch}
+use Rattle.mc_pump.specs.Unsent.{IsUnsentWithin}
 use Rattle.mc_pump.specs.declared.limits.TheConstants.{UNSENT_MARK}
 use Rattle.mc_stream.specs.declared.outcomes.Pumped.{Pumped}
 use Rattle.mc_pump.specs.declared.rounds.Stop.{Stop}
@@ -15,6 +16,7 @@ use Rattle.mc_pump.specs.declared.rounds.Stop.TheVariants.{Idle, Closing, Marked
 pub record TakesTurns (number moment : ℕ) (old new : ServerState) (count count' : Counted) : Type 0 where
   pub stretch : ConnectionStretch number moment old new [] []
   pub counted : CountsWithin old.cache stretch.history count count'
+  pub unsent : IsUnsentWithin count.most (connection_at old number) (connection_at new number)
 
 -- why the turns of a round stopped
 abbrev pub StopsAt : Stop → Option ConnectionState → Type 0
@@ -30,7 +32,7 @@ ends_by Closing ended = true
 ends_by Marked ended = false
 ends_by Spent ended = false
 
--- whether the turns stopped because the quantum is spent
+-- whether the turns stopped because the quantum is spent, or there is no room for the next answer
 abbrev pub is_spent : Stop → Bool
 is_spent Spent = true
 is_spent other = false
@@ -76,3 +78,4 @@ pub record PumpsPart (number moment : ℕ) (pump : Pumped) (old new : ServerStat
   pub carried : CarriesBy pump unread unread' written written' ended ended' came went
   pub left : Leaves pump ended' (connection_at new number)
   pub counted : CountsWithin old.cache stretch.history count count'
+  pub unsent : IsUnsentWithin count.most (connection_at old number) (connection_at new number)

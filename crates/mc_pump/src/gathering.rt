@@ -1,9 +1,10 @@
 //! The pump of a connection whose large values are written without a copy.
-ghost use Rattle.std.specs.Prelude.{◌≡◌, ◌<◌, ◌^◌, Option, None, Err, length, IfErr, IfNone, IfOk, IfSome, IsSome};
+ghost use Rattle.std.specs.Prelude.{◌≡◌, ◌<◌, ◌≤◌, ◌-◌, ◌^◌, Option, None, Err, length, IfErr, IfNone, IfOk, IfSome, IsSome};
 ghost use Rattle.mc_server.specs.ServerState.{ConnectionState, connection_at, output_of};
 ghost use Rattle.mc_stream.specs.Sides.{pump_of};
 ghost use Rattle.mc_pump.specs.Counts.{counted_by};
 ghost use Rattle.mc_pump.specs.Pumps.{IsBarred, Pumps};
+ghost use Rattle.mc_pump.specs.Unsent.{IsUnsentWithin};
 ghost use Rattle.mc_pump.specs.Gathers.{GathersTurns};
 ghost use Rattle.mc_pump.specs.Rounds.{PumpsPart, StopsAt};
 
@@ -36,6 +37,7 @@ pub fn pump_gathering<S: Store + Drop, R: Read, W: Gather>(
     ensures pumps { IsSome (connection_at server.old number) → Pumps number moment result server.old server.new
         (R.remaining reader.old) (R.remaining reader.new) (W.contents writer.old) (W.contents writer.new) ended.old ended.new
         watch.old.no_memory watch.new.no_memory }
+    ensures unsent { IsSome (connection_at server.old number) → IsUnsentWithin watch.old.most (connection_at server.old number) (connection_at server.new number) }
     ensures not_open { connection_at server.old number ≡ None → (result ≡ Pumped.Failed) × (server.new ≡ server.old) }
     ensures barred { IsBarred (connection_at server.old number) → (result ≡ Pumped.Failed) × (server.new ≡ server.old) }
     ensures not_counted { connection_at server.old number ≡ None → watch.new ≡ watch.old }
@@ -44,6 +46,7 @@ pub fn pump_gathering<S: Store + Drop, R: Read, W: Gather>(
         return Pumped::Failed;
     };
     watch.left = QUANTUM;
+    watch.want = None;
     for _round in 0..MAX_ROUNDS {
         if let Err(pump) = round(server, number, ended, reader, writer, piece, moment, watch) {
             return pump;
@@ -96,9 +99,23 @@ fn stop_before(unsent: usize, left: u64) -> Option<Stop>
     None
 }
 
-/// Takes turns of a connection until no request is pending, until the unsent bytes reach the mark or until the quantum is spent, and gives the
-/// writer their large answers. None says that the writer took some of one, after which no turn is taken. The error is [`Pumped::Failed`]: a
-/// turn was refused memory, its answer may have more bytes than the watch allows, or the next line is foreign.
+/// Returns a bound on the next answer of a connection; [`usize::MAX`] if it is that or more, or the connection is not open.
+fn bound_at<S: Store + Drop>(server: &Server<S>, number: u64) -> usize {
+    server.bound(number).unwrap_or(usize::MAX)
+}
+
+/// Returns how many bytes an output has.
+fn len_of(output: &[u8]) -> usize
+    ensures len { result ≡ length output.now }
+    ensures fits { length output.now ≤ 2 ^ 64 - 1 }
+{
+    output.len()
+}
+
+/// Takes turns of a connection until no request is pending, until the unsent bytes reach the mark, until the quantum is spent or until there is no
+/// room for the next answer, and gives the writer their large answers. None says that the writer took some of one, after which no turn is
+/// taken. The error is [`Pumped::Failed`]: a turn was refused memory, its answer may have more bytes than the watch allows, or the next line is
+/// foreign.
 pub fn gather_turns<S: Store + Drop, W: Gather>(
     server: &mut Server<S>,
     number: u64,
@@ -123,13 +140,15 @@ pub fn gather_turns<S: Store + Drop, W: Gather>(
             watch.foreign = true;
             return Err(Pumped::Failed);
         }
+        let limit = watch.limit_beside(unsent, server.reserved(number));
         let mut went = 0;
         let mut work = 0;
-        match server.turn_gathering(number, moment, watch.limit, writer, &mut went, &mut work) {
+        match server.turn_gathering(number, moment, limit, writer, &mut went, &mut work) {
             Ok(Limited::Turned(Turn::Took)) => {
                 let output = server.output(number);
+                let kept = len_of(output);
                 if went > 0 {
-                    watch.showed(work, unsent, went, output.len());
+                    watch.showed(work, unsent, went, kept);
                     return Ok(None);
                 }
                 let (_, answer) = output.split_at(unsent);
@@ -137,10 +156,7 @@ pub fn gather_turns<S: Store + Drop, W: Gather>(
             }
             Ok(Limited::Turned(Turn::Idle)) => return Ok(Some(Stop::Idle)),
             Ok(Limited::Turned(Turn::Closing)) => return Ok(Some(Stop::Closing)),
-            Ok(Limited::Refused) => {
-                watch.refused = true;
-                return Err(Pumped::Failed);
-            }
+            Ok(Limited::Refused) => return watch.refuse(bound_at(server, number)),
             Err(_) => return Err(Pumped::Failed),
         }
     }

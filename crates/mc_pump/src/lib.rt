@@ -5,7 +5,8 @@
 //! are its limits: whatever the stream has, a pump ends with `Again` once its turns have cost a quantum of work. The stream is any reader and any
 //! writer: this crate knows no socket. [`pump_gathering`] does what `pump` does, for a writer that takes the parts of an answer in one call: of a
 //! large value it copies only what the writer leaves. One call of a side of a stream is
-//! [`mc_stream::write_once`] or [`mc_stream::read_once`]. A [`Watch`] limits the size of an answer. It counts requests, bytes, and the stores that
+//! [`mc_stream::write_once`] or [`mc_stream::read_once`]. A [`Watch`] limits the size of an answer, and what a connection may keep:
+//! a pump that needs more says what it [`Want`]s. It counts requests, bytes, and the stores that
 //! were refused for lack of memory.
 //!
 //! `specs/Stretches.antt` defines what a stretch of a connection does to a server, and `mc_stream`'s `specs/Sides.antt` what the two sides of a stream
@@ -23,7 +24,7 @@ mod watches;
 
 pub use gathering::pump_gathering;
 pub use laws::{all_but_the_last_cost_less, servers_hold_after_a_stretch};
-pub use limits::{QUANTUM, UNSENT_MARK};
+pub use limits::{QUANTUM, SMALL_ANSWER, UNSENT_MARK};
 pub use mc_stream::{MAX_ROUNDS, Pumped};
-pub use pumps::pump;
-pub use watches::Watch;
+pub use pumps::{pump, pump_output};
+pub use watches::{Want, Watch};

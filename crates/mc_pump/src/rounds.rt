@@ -24,7 +24,7 @@ pub enum Stop {
     Closing,
     /// The unsent bytes reach the mark.
     Marked,
-    /// The pump's turns have cost its quantum of work.
+    /// The pump's turns have cost its quantum of work, or there is no room for the next answer.
     Spent,
 }
 
@@ -108,7 +108,7 @@ fn ends(stop: Stop, ended: bool) -> bool
     }
 }
 
-/// Returns whether the turns stopped because the quantum is spent.
+/// Returns whether the turns stopped because the quantum is spent, or there is no room for the next answer.
 fn is_spent(stop: Stop) -> bool
     ensures { result ≡ is_spent stop }
 {
@@ -123,7 +123,7 @@ fn is_read(stop: Stop, ended: bool) -> bool
 }
 
 /// Writes what is unsent, in one call, drops what the writer took, and returns whether it took any.
-fn send<S: Store + Drop, W: Write>(
+pub fn send<S: Store + Drop, W: Write>(
     server: &mut Server<S>,
     number: u64,
     writer: &mut W,
@@ -169,7 +169,8 @@ fn read_or_block<S: Store + Drop, R: Read>(
     Err(Pumped::Blocked)
 }
 
-/// Reads once, feeds the connection with the bytes, and returns whether any arrived, or the end.
+/// Reads once, feeds the connection with the bytes, and returns whether any arrived, or the end. If the connection may not keep the bytes that a read
+/// asks for, it reads those for which memory is reserved. If that is none, it does not read: the error is [`Pumped::Again`].
 fn receive<S: Store + Drop, R: Read>(
     server: &mut Server<S>,
     number: u64,
@@ -185,6 +186,15 @@ fn receive<S: Store + Drop, R: Read>(
     ensures { (moment : ℕ) → Receives number moment result server.old server.new (R.remaining reader.old) (R.remaining reader.new) ended.new
         (counted_by watch.old) (counted_by watch.new) }
 {
+    let room = watch.room_beside(server.reserved(number));
+    let len = server.readable(number, piece.len(), room);
+    if len == 0 {
+        watch.lacks(piece.len());
+        return Err(Pumped::Again);
+    }
+    if len < piece.len() {
+        return receive_piece(server, number, ended, reader, &mut piece[..len], watch);
+    }
     match receive_apart(server, number, ended, reader, watch) {
         Some(moved) => moved,
         None => receive_piece(server, number, ended, reader, piece, watch),

@@ -1,16 +1,33 @@
-//! The limit and the counts of connections while they are pumped.
-ghost use Rattle.std.specs.Prelude.{◌≡◌, ◌≤◌, ◌+◌, ◌-◌, ◌/◌, ◌%◌, ◌^◌, length, false};
-ghost use Rattle.mc_pump.specs.Counts.{refusal_in};
+//! The limits and the counts of connections while they are pumped.
+ghost use Rattle.std.specs.Prelude.{◌≡◌, ◌≤◌, ◌+◌, ◌-◌, ◌/◌, ◌%◌, ◌^◌, length, false, None, Some, IfErr, IfOk};
+ghost use Rattle.mc_pump.specs.Counts.{counted_by, refusal_in};
+ghost use Rattle.mc_pump.specs.Wants.{answer_limit, refused_by, watch_refusing};
 
+use crate::limits::SMALL_ANSWER;
+use crate::rounds::Stop;
 use mc_request::Fault;
 use mc_server::{AnswerLimit, WORK_BYTES};
-use mc_stream::IoStats;
+use mc_stream::{IoStats, Pumped};
 
-/// The limit and the counts of connections while they are pumped.
+/// What a pump stopped for: it wants room for more bytes than the connection may keep.
+#[derive(Clone, Copy, Debug, PartialEq, Eq)]
+pub enum Want {
+    /// The next answer may have this number of bytes.
+    Answer(usize),
+    /// A read asks for this number of bytes.
+    Read(usize),
+}
+
+/// The limits and the counts of connections while they are pumped.
 #[derive(Clone, Copy, Debug, PartialEq, Eq)]
 pub struct Watch {
     /// The most bytes that an answer may have: a request whose answer may have more fails the pump, and is not taken.
     pub limit: AnswerLimit,
+    /// The most bytes that the connection may keep ([`Server::reserved`](mc_server::Server::reserved)); [`u64::MAX`] for any number. A caller sets
+    /// this before each pump.
+    pub most: u64,
+    /// What the pump stopped for, if it needs more room to go on. Each pump sets this.
+    pub want: Option<Want>,
     /// The requests and bytes that passed.
     pub tally: IoStats,
     /// Whether a request was refused, since its answer might have more. No pump resets it.
@@ -25,13 +42,16 @@ pub struct Watch {
 }
 
 impl Watch {
-    /// Makes a watch that has counted nothing.
+    /// Makes a watch that has counted nothing. A connection may keep any number of bytes.
     pub fn new(limit: AnswerLimit) -> Watch
         ensures limit { result.limit ≡ limit }
+        ensures most { result.most ≡ 2 ^ 64 - 1 }
         ensures no_memory { result.no_memory ≡ 0 }
     {
         Watch {
             limit,
+            most: u64::MAX,
+            want: None,
             tally: IoStats::new(),
             refused: false,
             foreign: false,
@@ -40,10 +60,56 @@ impl Watch {
         }
     }
 
+    /// Returns the limit of the next answer of a connection, of which `unsent` bytes are unsent and `reserved` reserved.
+    #[inline(always)]
+    pub(crate) fn limit_beside(&self, unsent: usize, reserved: usize) -> AnswerLimit
+        ensures { result ≡ record { bytes = answer_limit self.now.limit.bytes self.now.most unsent reserved } }
+    {
+        let little = SMALL_ANSWER.saturating_sub(unsent) as u64;
+        let room = self.most.saturating_sub(reserved as u64).max(little);
+        AnswerLimit {
+            bytes: self.limit.bytes.min(room as usize),
+        }
+    }
+
+    /// Notes an answer that was refused, since it may have `bound` bytes. It fails the pump for good if that is above the limit of an answer;
+    /// otherwise the pump stops until there is room.
+    pub(crate) fn refuse(&mut self, bound: usize) -> Result<Option<Stop>, Pumped>
+        ensures stop { result ≡ refused_by self.old.limit.bytes bound }
+        ensures stops { IfOk result (λ stopped. stopped ≡ Some Stop.Spent) }
+        ensures fails { IfErr result (λ pump. pump ≡ Pumped.Failed) }
+        ensures noted { self.new ≡ watch_refusing bound self.old }
+        ensures counted { counted_by self.new ≡ counted_by self.old }
+    {
+        if bound > self.limit.bytes {
+            self.refused = true;
+            return Err(Pumped::Failed);
+        }
+        self.want = Some(Want::Answer(bound));
+        Ok(Some(Stop::Spent))
+    }
+
+    /// Returns how many bytes more a connection with `reserved` reserved bytes may keep.
+    #[inline(always)]
+    pub(crate) fn room_beside(&self, reserved: usize) -> usize
+        ensures { result ≡ self.now.most - reserved }
+    {
+        self.most.saturating_sub(reserved as u64) as usize
+    }
+
+    /// Notes that the pump stops since there is no room for a read of `bytes` bytes.
+    pub(crate) fn lacks(&mut self, bytes: usize)
+        ensures wants { self.new ≡ record self.old { want = Some (Want.Read bytes) } }
+        ensures counted { counted_by self.new ≡ counted_by self.old }
+    {
+        self.want = Some(Want::Read(bytes));
+    }
+
     /// Counts a request that was taken, by its work and its whole answer.
     pub(crate) fn took(&mut self, work: u64, answer: &[u8])
         ensures no_memory { self.new.no_memory ≡ (self.old.no_memory + refusal_in answer.now) % 2 ^ 64 }
         ensures left { self.new.left ≡ self.old.left - (work + length answer.now / WORK_BYTES) }
+        ensures most { self.new.most ≡ self.old.most }
     {
         self.tally.took();
         self.no_memory = self.no_memory.wrapping_add(refusal_in(answer));
@@ -55,6 +121,7 @@ impl Watch {
     pub(crate) fn showed(&mut self, work: u64, unsent: usize, count: usize, kept: usize)
         ensures no_memory { self.new.no_memory ≡ self.old.no_memory }
         ensures left { self.new.left ≡ self.old.left - (work + (count + kept - unsent) / WORK_BYTES) }
+        ensures most { self.new.most ≡ self.old.most }
     {
         self.tally.took();
         self.tally.went(count);

@@ -156,6 +156,16 @@ impl Apart {
         self.line.capacity().saturating_add(self.block.reserved())
     }
 
+    /// Returns how many bytes more are reserved once it has read or appended `more` further bytes.
+    pub fn growth(&self, more: usize) -> usize {
+        self.block.growth(more, self.wanted)
+    }
+
+    /// Returns how many further bytes can arrive within what is reserved.
+    pub fn spare(&self) -> usize {
+        self.block.spare()
+    }
+
     /// Returns whether the bytes begin with `host:`. They begin with `set`. It reads no byte.
     #[inline(always)]
     pub fn names_host(&self) -> bool

@@ -218,6 +218,26 @@ impl ApartReader {
         }
     }
 
+    /// Returns how many bytes more are reserved once `more` further bytes have arrived, or [`ApartReader::read_from`] has read once.
+    pub fn growth(&self, more: usize) -> usize {
+        match &self.apart {
+            None => self.reader.growth(more),
+            Some(apart) => apart.growth(more),
+        }
+    }
+
+    /// Returns how many of `bytes` further bytes can be fed so that at most `room` bytes more are reserved: all of them, or those that fit into what is
+    /// reserved. If it is all of them, [`ApartReader::read_from`] reserves no more either.
+    pub fn readable(&self, bytes: usize, room: usize) -> usize
+        ensures { result ≤ bytes }
+    {
+        match &self.apart {
+            None => self.reader.readable(bytes, room),
+            Some(apart) if apart.growth(bytes) <= room => bytes,
+            Some(apart) => apart.spare().min(bytes),
+        }
+    }
+
     /// Frees the reserved memory, as [`Reader::shrink_if_idle`] does.
     pub fn shrink_if_idle(&mut self, kept: usize)
         ensures same { self.new ≡ self.old }

@@ -68,6 +68,18 @@ impl Incoming {
         self.bytes.capacity()
     }
 
+    /// Returns how many bytes more are reserved once it has read or appended `more` further bytes.
+    pub fn growth(&self, more: usize, wanted: usize) -> usize {
+        let next = next_read(self.come, self.spare(), wanted);
+        let capacity = self.bytes.capacity();
+        growth_of(capacity, self.come, more.max(next), wanted, ROOM_FOR)
+    }
+
+    /// Returns how many further bytes can arrive within what is reserved.
+    pub fn spare(&self) -> usize {
+        self.bytes.capacity().saturating_sub(self.come)
+    }
+
     /// Returns the bytes that have arrived.
     pub fn as_slice(&self) -> &[u8]
         ensures { result.now ≡ self.now }
@@ -97,8 +109,8 @@ impl Incoming {
         ensures none { IfNone result (self.new ≡ self.old) }
         ensures unread { IfNone result (reader.new ≡ reader.old) }
     {
-        let room = room_to_read(self.come, wanted);
-        if room < LEAST_READ {
+        let room = next_read(self.come, self.spare(), wanted);
+        if room == 0 {
             return None;
         }
         if !widen(&mut self.bytes, self.come, room, wanted) {
@@ -146,6 +158,36 @@ fn room_to_read(come: usize, wanted: usize) -> usize
     wanted
         .min(come.saturating_mul(ROOM_TO_READ))
         .saturating_sub(come)
+}
+
+/// Returns how many bytes are read next, straight behind `come` bytes, if `spare` further ones fit into what is reserved: none if only few of the
+/// wanted bytes are missing. More are reserved only once little is left.
+fn next_read(come: usize, spare: usize, wanted: usize) -> usize
+    ensures { result ≤ wanted - come }
+{
+    let room = room_to_read(come, wanted);
+    if room < LEAST_READ {
+        0
+    } else if spare >= LEAST_READ {
+        room.min(spare)
+    } else {
+        room
+    }
+}
+
+/// Returns how many bytes more are reserved for a buffer of this capacity once `more` bytes have arrived behind `come`, if `wanted` are wanted
+/// and memory is reserved for `times` those that have arrived. Behind the wanted ones, a buffer doubles.
+pub fn growth_of(capacity: usize, come: usize, more: usize, wanted: usize, times: usize) -> usize {
+    let come = come.saturating_add(more);
+    if come <= capacity {
+        return 0;
+    }
+    let room = if come <= wanted {
+        room_for(come, wanted, times)
+    } else {
+        come.max(capacity.saturating_mul(2))
+    };
+    room.saturating_sub(capacity)
 }
 
 /// Fills with zeros, so that there are `room` bytes behind the first `come`, and returns whether there are. False says that there is no

@@ -183,6 +183,23 @@ impl Reader {
         self.unread.reserved()
     }
 
+    /// Returns how many bytes more are reserved once `more` further bytes have arrived.
+    pub fn growth(&self, more: usize) -> usize {
+        self.unread.growth(more)
+    }
+
+    /// Returns how many of `bytes` further bytes can arrive so that at most `room` bytes more are reserved: all of them, or those that fit into what
+    /// is reserved.
+    pub fn readable(&self, bytes: usize, room: usize) -> usize
+        ensures { result ≤ bytes }
+    {
+        if self.growth(bytes) <= room {
+            bytes
+        } else {
+            self.unread.spare().min(bytes)
+        }
+    }
+
     /// Returns how many bytes the reader keeps: those that are not consumed, and the consumed ones that are not dropped yet,
     /// which are never more. None are kept after the end, or while a refused block arrives. If nothing is whole, they are
     /// fewer than [`REQUEST_LIMIT`](crate::REQUEST_LIMIT).

@@ -1,7 +1,7 @@
 //! The bytes that have arrived and are not consumed.
 ghost use Rattle.std.specs.Prelude.{◌≡◌, ◌<◌, ◌≤◌, ◌+◌, ◌↔◌, ℕ, List, [], ◌++◌, length, drop, vec_len, true, false, None, Some, is_some, IsTrue, OnOk, OnErr};
 
-use crate::incoming::make_room;
+use crate::incoming::{growth_of, make_room};
 use crate::peeks::{Front, Look, Peek, REQUEST_LIMIT};
 use crate::searched::Searched;
 use crate::steps::{Arrival, arrival_of, first_asked, first_look, is_whole};
@@ -108,11 +108,7 @@ impl Unread {
         }
         match self.dropping {
             None => {
-                let announced = if self.sure {
-                    self.start + self.wanted
-                } else {
-                    0
-                };
+                let announced = self.announced();
                 make_room(&mut self.buffer, piece.len(), announced, ROOM_FOR);
                 self.buffer.extend_from_slice(piece)?;
             }
@@ -123,6 +119,15 @@ impl Unread {
             }
         }
         Ok(())
+    }
+
+    /// Returns how many bytes the buffer has once the first request has arrived, if that is known; otherwise 0.
+    fn announced(&self) -> usize {
+        if self.sure {
+            self.start.saturating_add(self.wanted)
+        } else {
+            0
+        }
     }
 
     /// Notes how far the arrived bytes were examined, and begins to drop a refused block. If nothing is whole, it
@@ -347,6 +352,17 @@ impl Unread {
         ensures { self.now.held ≤ result }
     {
         self.buffer.capacity()
+    }
+
+    /// Returns how many bytes more are reserved once `more` further bytes have arrived.
+    pub fn growth(&self, more: usize) -> usize {
+        let (capacity, announced) = (self.buffer.capacity(), self.announced());
+        growth_of(capacity, self.buffer.len(), more, announced, ROOM_FOR)
+    }
+
+    /// Returns how many further bytes can arrive within what is reserved.
+    pub fn spare(&self) -> usize {
+        self.buffer.capacity().saturating_sub(self.buffer.len())
     }
 
     /// Returns how many bytes are kept.

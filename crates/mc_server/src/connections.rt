@@ -405,6 +405,19 @@ impl Connection {
             .saturating_add(self.output.capacity())
     }
 
+    /// Returns how many bytes more are reserved for the input once `more` further bytes have arrived.
+    pub fn growth(&self, more: usize) -> usize {
+        self.reader.growth(more)
+    }
+
+    /// Returns how many of `bytes` further bytes of the input can arrive so that at most `room` bytes more are reserved.
+    #[inline(always)]
+    pub fn readable(&self, bytes: usize, room: usize) -> usize
+        ensures { result ≤ bytes }
+    {
+        self.reader.readable(bytes, room)
+    }
+
     /// Frees the memory of each buffer that holds no byte, if more than `kept` bytes are reserved for it.
     pub fn shrink_if_idle(&mut self, kept: usize)
         ensures { self.new ≡ self.old }

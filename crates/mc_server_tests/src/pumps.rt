@@ -5,7 +5,7 @@ use crate::meagre::MeagreStore;
 use crate::servers::{MOMENT, WIDE, new_server};
 use crate::streams::Call::{Blocks, Fails, Interrupts, Moves};
 use crate::streams::{Call, Calls, MANY, SCRIPTS, Sides, Stream};
-use mc_pump::{MAX_ROUNDS, Pumped, QUANTUM, UNSENT_MARK, Watch, pump};
+use mc_pump::{MAX_ROUNDS, Pumped, QUANTUM, UNSENT_MARK, Want, Watch, pump};
 use mc_server::{AnswerLimit, Server, ServerError};
 use std::alloc::Global;
 use std::test::Fail;
@@ -292,6 +292,36 @@ fn is_limited(server: &mut Server<MeagreStore>, stream: &mut Stream) -> Result<b
     let is_refused = last == Pumped::Failed && server.bound(number)? == 501_024;
     let is_one = watch.tally.requests == 1 && server.output(number) == b"END\r\n".as_slice();
     Ok(is_refused && is_one)
+}
+
+/// A pump of a connection that may keep little does not read, or does not take a request, until there is room, and says for what.
+#[test]
+fn a_pump_waits_for_room(rt: HostRuntime) -> Result<(), Fail> {
+    let mut stream = Stream::new(rt.alloc(), b"get b\r\nget a\r\n", Sides::new((ALL, ALL)))?;
+    let mut server = server_with_value(rt.alloc())?;
+    let waits = waits_for_room(&mut server, &mut stream)?;
+    assert!(rt; waits);
+    Ok(())
+}
+
+/// Whether a pump reads nothing with room for a byte, answers the first request alone with room for 100,000, and the second one with room for
+/// 600,000.
+fn waits_for_room(
+    server: &mut Server<MeagreStore>,
+    stream: &mut Stream,
+) -> Result<bool, ServerError> {
+    let number = server.admit()?;
+    let mut watch = Watch::new(AnswerLimit::none());
+    watch.most = 1;
+    let unread = pump_once(server, number, &mut false, stream, &mut watch) == Pumped::Again;
+    let is_unread = unread && watch.want == Some(Want::Read(16)) && stream.source.calls.made == 0;
+    watch.most = 100_000;
+    let untaken = pump_once(server, number, &mut false, stream, &mut watch) == Pumped::Again;
+    let is_one = untaken && watch.want == Some(Want::Answer(501_024)) && watch.tally.requests == 1;
+    watch.most = 600_000;
+    let last = pump_once(server, number, &mut false, stream, &mut watch);
+    let is_all = last != Pumped::Failed && watch.want.is_none() && watch.tally.requests == 2;
+    Ok(is_unread && is_one && is_all)
 }
 
 /// How the reads of a large `set` and of a `get` after it go, and how many there are with the one that returns the end.

@@ -1,11 +1,15 @@
 -- How much memory a server may come to take, by what was measured of its items (docs/RUNNING.md, "Memory"). Source: this project's own.
-use Rattle.std.specs.Prelude.{ℕ, ◌+◌, ◌*◌, ◌/◌, nat_lt, Option, Some, None, if◌then◌else◌}
+use Rattle.std.specs.Prelude.{ℕ, ◌+◌, ◌-◌, ◌*◌, ◌/◌, ◌^◌, min, nat_lt, Option, Some, None, if◌then◌else◌}
+use Rattle.mc_net.specs.declared.buffers.TheConstants.{ROOM_AHEAD}
+use Rattle.mc_server.specs.declared.servers.TheConstants.{MAX_CONNECTIONS}
 use Rattle.mc_serverd.specs.declared.memory.Limit.{Limit}
 use Rattle.mc_serverd.specs.declared.memory.Limit.TheVariants.{Addresses, Group}
 
--- 1.07 of the budget, and 112 bytes for each of the most items
-abbrev pub memory_of : ℕ → ℕ → ℕ
-memory_of budget items = budget * 107 / 100 + items * 112
+-- 1.07 of the budget, 112 bytes for each of the most items, and what is kept for clients: 32,768 bytes for each, the bytes for all of them, and those
+-- for the one that is ahead; as far as 64 bits count
+abbrev pub memory_of : (budget items buffers : ℕ) → ℕ
+memory_of budget items buffers =
+    min (budget * 107 / 100 + items * 112 + (MAX_CONNECTIONS * 32768 + ROOM_AHEAD) + buffers) (2 ^ 64 - 1)
 
 -- what n items of 120 bytes cost, 184 each, if that leaves some of the budget
 abbrev pub filled_by : ℕ → ℕ → Option ℕ

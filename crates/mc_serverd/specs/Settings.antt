@@ -32,5 +32,6 @@ settings_shown s =
     ∷ (codes "item_size_max", decimal VALUE_LIMIT) ∷ (codes "evictions", codes "on") ∷ (codes "cas_enabled", codes "yes")
     ∷ (codes "idle_timeout", decimal s.service.terms.idle) ∷ (codes "items", decimal s.items) ∷ (codes "store", store_word s.kind)
     ∷ (codes "cas_from", cas_from_word s.cas_from) ∷ (codes "answer", decimal s.service.answer)
+    ∷ (codes "buffers", decimal s.service.buffers)
     ∷ (codes "report", decimal s.service.terms.report) ∷ (codes "memory_exit", decimal s.service.memory_exit)
     ∷ (codes "reserve", decimal s.service.reserve) ∷ []

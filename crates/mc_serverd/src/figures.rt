@@ -59,12 +59,13 @@ fn try_show<R: Files>(
 
 /// Returns the settings, by memcached's names if it has them.
 #[tactic(auto, unfolding(crate::specs::Settings::settings_shown))]
-fn settings_of(settings: &Settings) -> [Setting<'static>; 14]
+fn settings_of(settings: &Settings) -> [Setting<'static>; 15]
     ensures { map shown result ≡ settings_shown settings.now }
 {
     let Service {
         terms,
         answer,
+        buffers,
         memory_exit,
         reserve,
     } = settings.service;
@@ -80,6 +81,7 @@ fn settings_of(settings: &Settings) -> [Setting<'static>; 14]
         word(b"store", store_word(settings.kind)),
         cas_from_setting(settings.cas_from),
         number(b"answer", answer as u64),
+        number(b"buffers", buffers),
         number(b"report", terms.report),
         number(b"memory_exit", memory_exit),
         number(b"reserve", reserve as u64),

@@ -8,13 +8,17 @@ use crate::sides::{Received, Sent};
 use crate::store_stats::StoreStats;
 use mc_net::{AfterPump, Client, Handler, Input, PIECE_LEN, step_after};
 use mc_program::{EprintSeldom, OncePerSecond, Said};
-use mc_pump::{Pumped, Watch, pump_gathering};
+use mc_pump::{Pumped, SMALL_ANSWER, Want, Watch, pump_gathering, pump_output};
 use mc_server::{AnswerLimit, Server, ServerError};
 use mc_store::Store;
 use mc_stream::IoStats;
 use std::alloc::{AllocError, Global};
 use std::mem;
 use std::rc::Rc;
+
+/// How many bytes a read asks for of a client that may keep little more: so few that no data block is kept apart by them, for which much more than
+/// what has arrived is reserved.
+const LITTLE_LEN: usize = 1000;
 
 /// A server, and what its clients share.
 #[derive(Drop)]
@@ -24,6 +28,8 @@ pub struct ServerHandler<S: Store + Drop> {
     counts: Rc<StoreStats>,
     /// The buffer of reads: made once.
     piece: Vec<u8>,
+    /// The buffer of reads of clients that may keep little more.
+    little: Vec<u8>,
     /// The limit of an answer, the counts of all clients, and what is to be noted of the last one.
     watch: Watch,
     /// The pending line about a request whose answer may be too large: how many bytes it might have.
@@ -31,6 +37,7 @@ pub struct ServerHandler<S: Store + Drop> {
     /// The bytes of memory that are kept for when the system gives none.
     reserve: usize,
     ghost reads: { 0 < vec_len piece },
+    ghost reads_little: { 0 < vec_len little },
 }
 
 impl<S: Store + Drop> ServerHandler<S> {
@@ -44,10 +51,12 @@ impl<S: Store + Drop> ServerHandler<S> {
         reserve: usize,
     ) -> Result<Self, AllocError> {
         let piece = Vec::from_elem(alloc, 0, PIECE_LEN)?;
+        let little = Vec::from_elem(alloc, 0, LITTLE_LEN)?;
         Ok(ServerHandler {
             server,
             counts,
             piece,
+            little,
             watch: Watch::new(AnswerLimit { bytes: answer }),
             too_large: OncePerSecond::new(),
             reserve,
@@ -58,6 +67,39 @@ impl<S: Store + Drop> ServerHandler<S> {
     pub fn keep_reserve(&mut self) {
         if self.server.keep_reserve(self.reserve).is_err() {
             self.server.end_short();
+        }
+    }
+
+    /// Carries a client's bytes, of which at most `share` may be kept, and returns also whether its socket has failed.
+    fn pump(&mut self, client: &mut Client<()>, moment: u64, share: u64) -> (Pumped, bool)
+        requires { moment < 2 ^ 63 }
+        ensures { client.new.number ≡ client.old.number }
+    {
+        let (server, watch) = (&mut self.server, &mut self.watch);
+        watch.most = share;
+        let room = share.saturating_sub(server.reserved(client.number) as u64) as usize;
+        if server.readable(client.number, PIECE_LEN, room) < PIECE_LEN {
+            pump_client(server, client, &mut self.little, moment, watch)
+        } else {
+            pump_client(server, client, &mut self.piece, moment, watch)
+        }
+    }
+
+    /// Returns what is done with a client whose pump stopped for want of room: it goes on if there is room once its empty buffers are freed, and waits
+    /// otherwise. If all that had arrived was read, it does not wait to be read.
+    fn after_want(&mut self, client: &Client<()>, share: u64, want: Want) -> AfterPump {
+        let number = client.number;
+        let (more, is_little) = match want {
+            Want::Read(_) if client.readiness.would_block() => return AfterPump::Wait,
+            Want::Read(_) => (self.server.growth(number, LITTLE_LEN), false),
+            Want::Answer(bytes) => (bytes, bytes <= SMALL_ANSWER && !self.has_pending(number)),
+        };
+        self.server.shrink_if_idle(number, 0);
+        let need = self.held(number).saturating_add(more as u64);
+        if is_little || need <= share {
+            AfterPump::GoOn
+        } else {
+            AfterPump::Short(need)
         }
     }
 
@@ -116,14 +158,8 @@ impl<S: Store + Drop> Handler<()> for ServerHandler<S> {
         }
     }
 
-    fn serve(&mut self, client: &mut Client<()>, moment: u64) -> AfterPump {
-        let (pumped, failed) = pump_client(
-            &mut self.server,
-            client,
-            &mut self.piece,
-            moment,
-            &mut self.watch,
-        );
+    fn serve(&mut self, client: &mut Client<()>, moment: u64, share: u64) -> AfterPump {
+        let (pumped, failed) = self.pump(client, moment, share);
         let foreign = mem::replace(&mut self.watch.foreign, false);
         if pumped == Pumped::Failed && !foreign {
             self.note_failed(failed);
@@ -136,14 +172,35 @@ impl<S: Store + Drop> Handler<()> for ServerHandler<S> {
         if foreign {
             return AfterPump::TurnAway;
         }
-        step_after(pumped)
+        match self.watch.want {
+            Some(want) if pumped == Pumped::Again => self.after_want(client, share, want),
+            _ => step_after(pumped),
+        }
+    }
+
+    fn send(&mut self, client: &mut Client<()>) -> AfterPump {
+        let mut output = &client.stream;
+        match pump_output(
+            &mut self.server,
+            client.number,
+            &mut output,
+            &mut self.watch,
+        ) {
+            Ok(true) => AfterPump::GoOn,
+            Ok(false) => AfterPump::Wait,
+            Err(_) => AfterPump::Close,
+        }
+    }
+
+    fn held(&self, number: u64) -> u64 {
+        self.server.reserved(number) as u64
     }
 
     fn shrink_if_idle(&mut self, number: u64, room: usize) {
         self.server.shrink_if_idle(number, room);
     }
 
-    fn owes(&self, number: u64) -> bool {
+    fn has_pending(&self, number: u64) -> bool {
         !self.server.output(number).is_empty()
     }
 

@@ -1,5 +1,5 @@
 //! How much memory a server may come to take, and the report of it at its start.
-ghost use Rattle.std.specs.Prelude.{◌≡◌, ◌+◌, ◌<◌, ◌^◌};
+ghost use Rattle.std.specs.Prelude.{◌≡◌, ◌+◌, ◌≤◌, ◌<◌, ◌^◌};
 ghost use Rattle.mc_cache.specs.CacheState.{IsWithinBounds};
 ghost use Rattle.mc_serverd.specs.Memory.{below, filled_by, lower_of, memory_of, met_limit, tenths_of};
 
@@ -9,6 +9,8 @@ use crate::options::PROGRAM;
 use crate::settings::Settings;
 use libc::getrlimit;
 use libc::types::rlimit;
+use mc_net::ROOM_AHEAD;
+use mc_server::MAX_CONNECTIONS;
 use std::fmt;
 use std::fmt::{Display, Formatter};
 use std::fs::Files;
@@ -18,6 +20,10 @@ const HUNDREDTHS: u64 = 107;
 
 /// The bytes of the process that the table takes for each of the most items.
 const TABLE_BYTES: u64 = 112;
+
+/// The bytes of the process that each client may take, whatever others keep: its share, and as much for its buffers' growth and for what is known
+/// of it.
+const CLIENT_BYTES: u64 = 32_768;
 
 /// What an item of 120 bytes costs.
 const USUAL_COST: u64 = 184;
@@ -40,13 +46,15 @@ pub enum Limit {
     Group(u64),
 }
 
-/// Returns how much memory a server with a budget and at most this many items may come to take, in bytes: 1.07 of the budget, and
-/// 112 bytes for each item.
-pub fn memory_of(budget: u64, items: usize) -> u64
+/// Returns how much memory a server with a budget and at most this many items may come to take, in bytes: 1.07 of the budget, 112 bytes for each
+/// item, and `buffers` bytes for clients. For each client there may be 32,768 bytes, and for the one that is ahead [`ROOM_AHEAD`].
+pub fn memory_of(budget: u64, items: usize, buffers: u64) -> u64
     requires { IsWithinBounds budget items }
-    ensures { result ≡ memory_of budget items }
+    ensures { result ≡ memory_of budget items buffers }
 {
-    budget * HUNDREDTHS / 100 + items as u64 * TABLE_BYTES
+    let stored = budget * HUNDREDTHS / 100 + items as u64 * TABLE_BYTES;
+    let clients = MAX_CONNECTIONS as u64 * CLIENT_BYTES + ROOM_AHEAD;
+    (stored + clients).saturating_add(buffers)
 }
 
 /// Returns what this many items of 120 bytes cost, if that leaves some of the budget.
@@ -155,15 +163,23 @@ impl Display for Limit {
 /// Reports on standard error how much memory a server may come to take, and the limit that it then meets. If items of 120 bytes do not
 /// use its budget up, it also reports how much of it they fill.
 pub fn tell_memory<R: Eprint + Files + AllocGlobal>(rt: &R, settings: &Settings) {
-    let Settings { budget, items, .. } = *settings;
-    let memory = memory_of(budget, items);
+    let Settings {
+        budget,
+        items,
+        service,
+        ..
+    } = *settings;
+    let memory = memory_of(budget, items, service.buffers);
     let (taken, costs, count) = (Amount(memory), Amount(budget), Grouped(items as u64));
+    let kept = Amount(service.buffers);
     // Best effort: a failed write to standard error must not stop serving.
     let _ = match met_limit(memory, address_limit(), group_limit(rt)) {
         Some(limit) => eprintln!(rt;
-            "{PROGRAM}: may take {taken}: budget {costs}, {count} items; {limit}"
+            "{PROGRAM}: may take {taken}: budget {costs}, {count} items, buffers {kept}; {limit}"
         ),
-        None => eprintln!(rt; "{PROGRAM}: may take {taken}: budget {costs}, {count} items"),
+        None => eprintln!(rt;
+            "{PROGRAM}: may take {taken}: budget {costs}, {count} items, buffers {kept}"
+        ),
     };
     let Some(filled) = filled_by(items, budget) else {
         return;

@@ -3,7 +3,7 @@
 use crate::cas_from::{CasFrom, cas_from_named};
 use crate::items::{items_for, items_named};
 use crate::kinds::{KINDS, StoreKind, kind_named};
-use crate::settings::{Service, Settings, USUAL_ANSWER, USUAL_RESERVE};
+use crate::settings::{Service, Settings, USUAL_ANSWER, USUAL_BUFFERS, USUAL_RESERVE};
 use clap::builder::ValueParser;
 use clap::{Arg, ArgMatches, Command};
 use mc_cache::MAX_BUDGET;
@@ -33,6 +33,13 @@ const BAD_CAS_FROM: &str =
 const BAD_ANSWER: &str =
     "invalid value for '--answer <bytes>': neither in 1024..=1099511627776 nor a number of K, M or G up to 1024G";
 
+/// The fewest bytes that may be kept for clients.
+const LEAST_BUFFERS: u64 = 4_194_304;
+
+/// Why a word of `--buffers` is refused.
+const BAD_BUFFERS: &str =
+    "invalid value for '--buffers <bytes>': neither in 4194304..=1099511627776 nor a number of K, M or G from 4M to 1024G";
+
 /// The most bytes that may be kept in reserve.
 const MAX_RESERVE: u64 = 1_073_741_824;
 
@@ -60,18 +67,20 @@ pub struct Options<'a> {
 
 impl<'a> Options<'a> {
     /// Reads the matches of [`command`]. An error says which word is refused, and why: of `--budget`, `--items`, `--cas-from`,
-    /// `--answer`, `--reserve` or `--admin-name`. The command refuses the others.
+    /// `--answer`, `--buffers`, `--reserve` or `--admin-name`. The command refuses the others.
     pub fn of(matches: &ArgMatches<'a>) -> Result<Options<'a>, &'static str> {
         let budget = size_of(matches, "budget", 1).ok_or(BAD_BUDGET)?;
         let items = items_named(word_of(matches, "items")).ok_or(BAD_ITEMS)?;
         let cas_from = word_of(matches, "cas-from");
         let cas_from = cas_from_named(cas_from).ok_or(BAD_CAS_FROM)?;
         let answer = size_of(matches, "answer", LEAST_ANSWER).ok_or(BAD_ANSWER)?;
+        let buffers = size_of(matches, "buffers", LEAST_BUFFERS).ok_or(BAD_BUFFERS)?;
         let reserve = size_within(word_of(matches, "reserve"), 0, MAX_RESERVE).ok_or(BAD_RESERVE)?;
         let kind = kind_named(word_of(matches, "store"));
         let service = Service {
             terms: Terms::of(matches),
             answer: answer as usize,
+            buffers,
             memory_exit: matches.get_one::<u64>("memory-exit").unwrap_or(0),
             reserve: reserve as usize,
         };
@@ -131,6 +140,9 @@ fn write_service<W: fmt::Write>(service: Service, f: &mut Formatter<W>) -> fmt::
     if service.answer != USUAL_ANSWER {
         write!(f, " answer {}", service.answer)?;
     }
+    if service.buffers != USUAL_BUFFERS {
+        write!(f, " buffers {}", service.buffers)?;
+    }
     if idle > 0 {
         write!(f, " idle {idle}")?;
     }
@@ -157,6 +169,7 @@ pub fn command<'a>(alloc: Global) -> Result<Command<'a>, AllocError> {
         .arg(store(alloc))?
         .arg(cas_from(alloc))?
         .arg(answer(alloc))?
+        .arg(buffers(alloc))?
         .arg(idle(alloc))?
         .arg(report(alloc))?
         .arg(memory_exit(alloc))?
@@ -232,7 +245,16 @@ fn answer<'a>(alloc: Global) -> Arg<'a> {
         alloc,
         "answer",
         "268435456",
-        "The most bytes of an answer: a request whose answer may have more closes its connection; 1024 to 1099511627776, or with K, M or G",
+        "The most bytes of an answer: a request whose answer may have more closes its connection; 1024 to 1099511627776, or with K, M or G, and no more than --buffers less 2M",
+    )
+}
+
+fn buffers<'a>(alloc: Global) -> Arg<'a> {
+    size(
+        alloc,
+        "buffers",
+        "268435456",
+        "What may be kept for all clients together, beside 16K for each: unread requests and unsent answers. A client that needs more waits, and one that keeps much and makes no progress is closed; 4194304 to 1099511627776, or with K, M or G",
     )
 }
 

@@ -9,7 +9,7 @@ use crate::options::PROGRAM;
 use crate::settings::Settings;
 use crate::store_stats::StoreStats;
 use mc_net::{
-    Backlog, Clients, Handler, Listed, LoopHandler, Operators, Owed, Report, Room, poll_timeout,
+    Awaits, Backlog, Clients, Handler, Listed, LoopHandler, Operators, Report, Room, poll_timeout,
 };
 use mc_program::{EprintSeldom, OWN_FILES, ServeError, Ticker, earlier};
 use mc_server::{MAX_CONNECTIONS, Server};
@@ -87,10 +87,16 @@ impl<'a, S: Store + Drop> ServerLoop<'a, S> {
     {
         let service = settings.service;
         let room = room_beside(operators.files());
-        let clients = Clients::new(alloc, MAX_CONNECTIONS, service.terms.idle)?;
+        let clients = Clients::new(alloc, MAX_CONNECTIONS, service.terms.idle, service.buffers)?;
         let other = counts.clone()?;
         Ok(ServerLoop {
-            handler: ServerHandler::new(alloc, server, other, service.answer, service.reserve)?,
+            handler: ServerHandler::new(
+                alloc,
+                server,
+                other,
+                service.answer_limit(),
+                service.reserve,
+            )?,
             alloc,
             listen,
             clients,
@@ -124,7 +130,7 @@ impl<'a, S: Store + Drop> ServerLoop<'a, S> {
             self.alloc,
             from,
             self.moment,
-            Owed::Answers,
+            Awaits::Answers,
         )?;
         Ok(Some(listed))
     }

@@ -45,6 +45,10 @@ returns-then-is_read g c =
     pumps_then c.args.session (pump_of c.read_or_block.result) c.args.proxy.now c.send.new.proxy c.read_or_block.new.proxy _ _ _ _ _ _ c.args.ended.now c.args.ended.now c.read_or_block.new.ended (counts_of c.args.tally.now) (counts_of c.send.new.tally) (counts_of c.read_or_block.new.tally)
     before (c.read_or_block.ensures (g.W.Write.contents c.send.new.writer))
 
+pub returns-then-len-eq0 : goal.returns-then-len-eq0
+returns-then-len-eq0 g c =
+    stopped c.args.session c.in_ok-moved.moved Again c.args.proxy.now c.advance.new.proxy c.send.new.proxy (g.R.Read.remaining c.args.reader.now) _ _ c.args.ended.now (counts_of c.args.tally.now) (counts_of c.advance.new.tally) (counts_of c.send.new.tally) c.in-Ok.ensures.calls c.in_ok-moved.ensures.sends tt
+
 pub returns-then-moved-2 : goal.returns-then-moved-2
 returns-then-moved-2 g c =
     stopped c.args.session c.in_ok-moved.moved Again c.args.proxy.now c.advance.new.proxy c.send.new.proxy (g.R.Read.remaining c.args.reader.now) _ _ c.args.ended.now (counts_of c.args.tally.now) (counts_of c.advance.new.tally) (counts_of c.send.new.tally) c.in-Ok.ensures.calls c.in_ok-moved.ensures.sends tt

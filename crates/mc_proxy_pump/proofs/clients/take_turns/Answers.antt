@@ -24,7 +24,7 @@ loop-tally-preserved c =
     let same : c.charge_request.new.self.missed ≡ c.loop-tally.tally.missed = ap (λ (tally : ClientTally). tally.missed) c.charge_request.ensures in
     let some : 0 < c.loop-tally.tally.left = omega (arith, c.if-tally-eq0.false) in
     let spent : c.charge_request.new.self.left ≡ c.loop-tally.tally.left - request_work (commands_of (session_at c.turn.new.self c.args.session)) =
-    ap (λ (tally : ClientTally). tally.left) c.charge_request.ensures ∙ ap (λ (n : ℕ). c.loop-tally.tally.left - request_work n) c.commands.ensures in
+    ap (λ (tally : ClientTally). tally.left) c.charge_request.ensures ∙ ap (λ (n : ℕ). c.loop-tally.tally.left - request_work n) c.commands-commands.ensures in
     record {
       stretch = stretch_then c.args.session c.args.proxy.now c.loop-tally.proxy c.turn.new.self [] [] [] [] (counts_of c.args.tally.now) (counts_of c.loop-tally.tally) (counts_of c.charge_request.new.self) c.loop-tally.invariant.stretch
           (stretch_took c.args.session c.loop-tally.proxy c.turn.new.self c.loop-tally.tally.missed c.charge_request.new.self.missed c.loop-tally.tally.left c.charge_request.new.self.left steps own same some spent);

@@ -11,6 +11,10 @@ use Rattle.mc_pump.proofs.CountLemmas.{output_grows}
 use Rattle.mc_pump.proofs.RoundLemmas.{closed_has_none, found_none, not_barred}
 use Rattle.mc_pump.proofs.GatherLemmas.{gathers_none, gathers_still, gathers_idle, gathers_closing, gathers_took, gathers_showed, gathered_one, plain_took, plain_wrote, stepped}
 use Rattle.mc_pump.specs.Counts.{counted_by}
+use Rattle.mc_pump.proofs.UnsentLemmas.{taken_within, unsent_turn}
+use Rattle.mc_server.specs.Rooms.{bound_of}
+use Rattle.mc_server.specs.Turns.{waiting_of}
+use Rattle.mc_server.specs.declared.limits.AnswerLimit.{AnswerLimit}
 use Rattle.mc_pump.proofs.gathering.gather_turns.Goals as goal
 
 pub loop-stop-init : goal.loop-stop-init
@@ -22,8 +26,11 @@ returns-then-went-gt0-clause-turns g c =
     let steps : Steps c.args.number c.loop-stop.server c.turn_gathering.new.self (TakesOut c.args.number c.args.moment c.turn_gathering.new.went (g.W.Write.contents c.loop-stop.writer) (g.W.Write.contents c.turn_gathering.new.writer)) =
     rw c.in-Ok-Turned-Took.field-0-0-is at (rw c.in-Ok-Turned-Took.field-0-is at c.in-Ok-Turned-Took.ensures.within) in
     let below : length (output_of (connection_at c.loop-stop.server c.args.number)) < UNSENT_MARK = rw (← c.output-unsent.ensures) c.in_default.ensures.below in
-    gathers_showed c.args.number c.args.moment c.turn_gathering.new.went c.turn_gathering.new.work (length c.output-unsent.result.now) (length c.output-output.result.now) (counted_by c.args.watch.now) (counted_by c.loop-stop.watch) (counted_by c.showed.new.self) c.args.server.now c.loop-stop.server c.turn_gathering.new.self _ _ _ c.loop-stop.invariant.0
-    steps c.if-went-gt0.true below (search rules) (search rules) c.in_default.ensures.some_left c.stop_before.ensures.fits (search rules) c.showed.ensures.no_memory c.showed.ensures.left
+    gathers_showed c.args.number c.args.moment c.turn_gathering.new.went c.turn_gathering.new.work (length c.output-unsent.result.now) c.len_of-kept.result (counted_by c.args.watch.now) (counted_by c.loop-stop.watch) (counted_by c.showed.new.self) c.args.server.now c.loop-stop.server c.turn_gathering.new.self _ _ _ c.loop-stop.invariant.0
+    steps c.if-went-gt0.true below (search rules) (search rules) c.in_default.ensures.some_left c.stop_before.ensures.fits (search rules) c.showed.ensures.no_memory c.showed.ensures.left c.showed.ensures.most
+    (unsent_turn (length (output_of (connection_at c.loop-stop.server c.args.number))) (length (output_of (connection_at c.turn_gathering.new.self c.args.number))) (length c.output-unsent.result.now) c.reserved.result c.limit_beside-limit.result.bytes c.loop-stop.watch.limit.bytes c.loop-stop.watch.most
+    (bound_of (waiting_of (connection_at c.loop-stop.server c.args.number)) c.loop-stop.server.cache) (ap (λ (bytes : List ℕ). length bytes) c.output-unsent.ensures) c.reserved.ensures.output c.in-Ok-Turned-Took.ensures.bounded
+    (taken_within c.limit_beside-limit.result.bytes _ c.in-Ok-Turned-Took.field-0-0 (rw c.in-Ok-Turned-Took.field-0-is at c.in-Ok-Turned-Took.ensures.refused)) (ap (λ (limit : AnswerLimit). limit.bytes) c.limit_beside-limit.ensures) (rw c.output-output.ensures at c.len_of-kept.ensures.fits))
 
 -- something was taken, and its whole answer is in the output
 pub loop-stop-smaller : goal.loop-stop-smaller
@@ -40,7 +47,9 @@ loop-stop-preserved g c =
     let none : c.turn_gathering.new.went ≡ 0 = omega (arith, c.if-went-gt0.false) in (
       gathers_took c.args.number c.args.moment c.turn_gathering.new.work (counted_by c.args.watch.now) (counted_by c.loop-stop.watch) (counted_by c.took.new.self) c.split_at.result.1.now c.args.server.now c.loop-stop.server c.turn_gathering.new.self _ _ _ c.loop-stop.invariant.0
           (plain_took c.args.number c.args.moment c.turn_gathering.new.went c.loop-stop.server c.turn_gathering.new.self _ _ steps none) (plain_wrote c.args.number c.args.moment c.turn_gathering.new.went c.loop-stop.server c.turn_gathering.new.self _ _ steps none)
-          below c.in_default.ensures.some_left c.stop_before.ensures.fits (search rules) (search rules) c.took.ensures.no_memory c.took.ensures.left,
+          below c.in_default.ensures.some_left c.stop_before.ensures.fits (search rules) (search rules) c.took.ensures.no_memory c.took.ensures.left c.took.ensures.most (unsent_turn (length (output_of (connection_at c.loop-stop.server c.args.number))) (length (output_of (connection_at c.turn_gathering.new.self c.args.number))) (length c.output-unsent.result.now) c.reserved.result c.limit_beside-limit.result.bytes c.loop-stop.watch.limit.bytes c.loop-stop.watch.most
+          (bound_of (waiting_of (connection_at c.loop-stop.server c.args.number)) c.loop-stop.server.cache) (ap (λ (bytes : List ℕ). length bytes) c.output-unsent.ensures) c.reserved.ensures.output c.in-Ok-Turned-Took.ensures.bounded
+          (taken_within c.limit_beside-limit.result.bytes _ c.in-Ok-Turned-Took.field-0-0 (rw c.in-Ok-Turned-Took.field-0-is at c.in-Ok-Turned-Took.ensures.refused)) (ap (λ (limit : AnswerLimit). limit.bytes) c.limit_beside-limit.ensures) (rw c.output-output.ensures at c.len_of-kept.ensures.fits)),
       λ barred some. absurd (not_barred c.args.number c.args.watch.now.left c.loop-stop.watch.left c.args.server.now c.loop-stop.server c.is_foreign.result c.loop-stop.invariant.1 c.is_foreign.ensures c.if-is_foreign.false barred some),
     )
 
@@ -89,7 +98,7 @@ returns-in-Ok-Refused-clause-turns g c =
     let kept : c.turn_gathering.new.self ≡ c.loop-stop.server = c.in-Ok-Refused.ensures.unchanged (rw c.in-Ok-Refused.field-0-is refl) in
     let steps : Steps c.args.number c.loop-stop.server c.turn_gathering.new.self (IsGatheredTurn c.args.number c.args.moment (Refused) c.turn_gathering.new.went (g.W.Write.contents c.loop-stop.writer) (g.W.Write.contents c.turn_gathering.new.writer)) = rw c.in-Ok-Refused.field-0-is at c.in-Ok-Refused.ensures.within in
     let P : ServerState → Type 0 = λ s. GathersTurns c.args.number c.args.moment c.args.server.now s (g.W.Write.contents c.args.writer.now) (g.W.Write.contents c.turn_gathering.new.writer) (counted_by c.args.watch.now) (counted_by c.loop-stop.watch) in
-    subst P (sym kept) (gathers_still c.args.number c.args.moment (counted_by c.args.watch.now) (counted_by c.loop-stop.watch) c.args.server.now c.loop-stop.server _ _ _ c.loop-stop.invariant.0 (keeps_appends _ _ steps.step.1))
+    rw c.refuse.ensures.counted (subst P (sym kept) (gathers_still c.args.number c.args.moment (counted_by c.args.watch.now) (counted_by c.loop-stop.watch) c.args.server.now c.loop-stop.server _ _ _ c.loop-stop.invariant.0 (keeps_appends _ _ steps.step.1)))
 
 pub returns-then-went-gt0-clause-barred : goal.returns-then-went-gt0-clause-barred
 returns-then-went-gt0-clause-barred g c = λ barred some. absurd (not_barred c.args.number c.args.watch.now.left c.loop-stop.watch.left c.args.server.now c.loop-stop.server c.is_foreign.result c.loop-stop.invariant.1 c.is_foreign.ensures c.if-is_foreign.false barred some)

@@ -10,5 +10,5 @@ use Rattle.mc_pump.proofs.gathering.pump_gathering.Given as goal
 -- the rounds so far are one pump
 abbrev pub invariant-loop-round : goal.invariant-loop-round
 invariant-loop-round g l = PumpsPart l.number l.moment Again l.fn.server l.server (g.R.Read.remaining l.fn.reader) (g.R.Read.remaining l.reader)
-    (g.W.Write.contents l.fn.writer) (g.W.Write.contents l.writer) l.fn.ended l.ended (record { refused = l.fn.watch.no_memory; left = QUANTUM }) (counted_by l.watch)
+    (g.W.Write.contents l.fn.writer) (g.W.Write.contents l.writer) l.fn.ended l.ended (record { refused = l.fn.watch.no_memory; left = QUANTUM; most = l.fn.watch.most }) (counted_by l.watch)
     × (IsBarred (connection_at l.fn.server l.number) → (l.server ≡ l.fn.server) × (l.watch.left ≡ QUANTUM) × (l._round ≡ 0))

@@ -6,15 +6,15 @@ use Rattle.mc_stream.specs.declared.outcomes.Pumped.{Pumped}
 use Rattle.mc_stream.specs.declared.outcomes.Pumped.TheVariants.{Again}
 use Rattle.mc_stream.specs.Sides.{pump_of}
 use Rattle.mc_proxy_pump.specs.Calls.{SessionStretch}
-use Rattle.mc_proxy_pump.specs.Clients.{PumpsClient, is_owed_at}
+use Rattle.mc_proxy_pump.specs.Clients.{PumpsClient, has_pending_at}
 use Rattle.mc_proxy_pump.specs.Tallies.{Counts}
 use Rattle.mc_proxy_pump.specs.Rounds.{Sends}
 use Rattle.mc_proxy_pump.proofs.PumpLemmas.{pumps_then, pumps_turns, pumps_unsent, stopped}
 
 -- such a session is open
-pub owed_is_open : (session : Option SessionState) → is_owed_at session ≡ true → IsSome session
-owed_is_open None owed = let clash : false ≡ true = owed in absurd cc
-owed_is_open (Some session) owed = refl
+pub pending_is_open : (session : Option SessionState) → has_pending_at session ≡ true → IsSome session
+pending_is_open None pending = let clash : false ≡ true = pending in absurd cc
+pending_is_open (Some session) pending = refl
 
 -- answers, and then a write
 pub answered : (number : ℕ) (side : Result Bool Pumped) (a b c : ProxyState) (unread written written' : Option (List ℕ)) (ended : Bool) (first second third : Counts)
