@@ -62,6 +62,8 @@ add tests/gate/refused.py crates/mc_server_tests/out/mc_server_tests_tests large
 add tests/gate/refused.py crates/mc_pool_tests/out/mc_pool_tests_tests pools::dialogues_of_a_pool_go_so
 add tests/gate/refused.py crates/mc_pool_tests/out/mc_pool_tests_tests pools::dialogues_with_missed_losses_go_so
 add tests/gate/refused.py crates/mc_pool_tests/out/mc_pool_tests_tests worlds::links_are_lost_and_back
+add tests/gate/refused.py crates/mc_pool_tests/out/mc_pool_tests_tests joins::a_server_joins_a_world
+add tests/gate/refused.py crates/mc_pool_tests/out/mc_pool_tests_tests requests::requests_have_their_parts
 add tests/gate/refused_scripts.py
 add tests/gate/serverd.py crates/mc_serverd/out/mc_serverd
 add tests/gate/looks.py crates/mc_serverd/out/mc_serverd

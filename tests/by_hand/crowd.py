@@ -223,7 +223,8 @@ def settle(clients):
 def faults(program, options, before, other):
     """What is wrong once the crowd has left."""
     links = 2 if options.proxy else 0
-    most, bound = program.memory("VmHWM"), before + options.buffers + ROOM_OF_CLIENTS + links * ROOM_OF_A_LINK
+    copied = options.buffers // 2 if options.proxy else 0  # the answer that is just made
+    most, bound = program.memory("VmHWM"), before + options.buffers + copied + ROOM_OF_CLIENTS + links * ROOM_OF_A_LINK
     if most > bound:
         yield f"took {most >> 20} MiB, which is above {bound >> 20}"
     if other.error:

@@ -24,9 +24,12 @@ import time
 
 sys.path.insert(0, str(pathlib.Path(__file__).resolve().parents[1] / "lib"))
 
-from checks import PATIENCE, Program, Wrong, asked, is_served, received, received_to_the_end, tally, want, want_at_most
-from live_pool import LOST
-from servers import HOST, Proxy, Server, connected, free_port
+from checks import (
+    PATIENCE, Program, Wrong, asked, is_served, plain_lines, received, received_to_the_end, tally, want, want_at_most,
+)  # fmt: skip
+from live_pool import LOST, Played, stored
+from rings import Ring
+from servers import HOST, Proxy, Server, connected, free_port, statistics
 from suite import are_built
 
 HERE = pathlib.Path(__file__).parent
@@ -41,6 +44,33 @@ LOAD = (
     b"set a 0 0 3\r\nabc\r\nset b 0 0 1\r\nx\r\nset c 0 -1 1\r\ny\r\nget a b c none\r\nmg a v\r\nincr n 1\r\nwhat\r\n",
     b"STORED\r\nSTORED\r\nSTORED\r\nVALUE a 0 3\r\nabc\r\nVALUE b 0 1\r\nx\r\nEND\r\nVA 3\r\nabc\r\nNOT_FOUND\r\nERROR\r\n",
 )
+UNCOUNTED = 32_768  # bytes that are kept for a client and are not counted
+# What a browser may do with the page, beside its script and its style.
+POLICY = {
+    "default-src": "'none'", "connect-src": "'self'", "img-src": "data:", "base-uri": "'none'", "form-action": "'none'", "frame-ancestors": "'none'",
+}  # fmt: skip
+# The metrics behind each label of the page, and the words for some of them; those of the columns of a proxy's servers, each of which has a number.
+LABELS = {
+    label: [("", name) if name in ("requests", "hits", "keys") else (name, "") for name in names.split()]
+    for label, names in {
+        "Requests/s": "requests requests",
+        "Clients": "memcached_current_connections memcached_max_connections",
+        "From clients/s": "memcached_read_bytes_total",
+        "To clients/s": "memcached_written_bytes_total",
+        "Clients refused": "memcached_connections_rejected_total",
+        "Hits/s": "hits keys keys",
+        "Hit rate": "hits keys hits keys",
+        "Items": "memcached_current_items wiersbol_limit_items",
+        "Items cost": "memcached_current_bytes memcached_limit_bytes",
+        "Evictions/s": "memcached_items_evicted_total memcached_items_evicted_total",
+        "Memory refused": "wiersbol_memory_refused_total",
+        "Memory": "process_resident_memory_bytes",
+    }.items()
+}
+NAMED = {
+    "requests": '"wiersbol_requests_total"', "hits": """'memcached_commands_total{command="get",status="hit"}'""", "keys": '"wiersbol_retrievals_total"',
+}  # fmt: skip
+COLUMNS = {"State": "up", "Sent/s": "sent_total", "Share": "sent_total", "Waiting": "waiting", "Losses": "losses_total", "Lost": "lost_total"}
 # The values that differ at each run, in metrics and in statistics.
 VARYING = [
     (rb"(wiersbol_process_id|STAT pid) \d+", rb"\1 PID"),
@@ -119,6 +149,80 @@ def statistics_are_shown(program):
         want(masked(admin.told(b"stats\r\nquit\r\n")), (HERE / "serverd.stats").read_text())
 
 
+def is_about(shown, pid):
+    """The number of the process, the wall clock and the time since the start, just now."""
+    want(shown["pid"], str(pid))
+    want_at_most(abs(int(shown["time"]) - time.time()), 3)
+    want_at_most(int(shown["uptime"]), 2)
+
+
+def the_process_is_shown(program, proxy_program):
+    port = free_port()
+    with server(program) as (started, admin):
+        is_about(statistics(admin.port), started.process.pid)
+        with Proxy(proxy_program, [started.address], ["--admin", f"{HOST}:{port}"]) as proxy:
+            is_about(statistics(port), proxy.process.pid)
+
+
+def figures_of_items_follow_each_change(program):
+    """How many there are, what they cost, and how many were evicted, after each request."""
+    port, evicted = free_port(), 0
+    with Server(program, items=3, words=["--admin", f"{HOST}:{port}"]) as started, started.connected() as client:
+        for text, answer, items, cost in (
+            (b"set a 0 0 1\r\nx\r\n", b"STORED\r\n", 1, 66),
+            (b"set a 0 0 10\r\n0123456789\r\n", b"STORED\r\n", 1, 75),
+            (b"append a 0 0 1\r\nx\r\n", b"STORED\r\n", 1, 76),
+            (b"set b 0 0 1\r\n9\r\nset cc 0 0 1\r\nx\r\n", b"STORED\r\n" * 2, 3, 76 + 66 + 67),
+            (b"incr b 1\r\n", b"10\r\n", 3, 76 + 67 + 67),
+            (b"touch b 60\r\nget b\r\n", b"TOUCHED\r\nVALUE b 0 2\r\n10\r\nEND\r\n", 3, 76 + 67 + 67),
+            (b"set d 0 0 1\r\nx\r\n", b"STORED\r\n", 3, 67 + 67 + 66),
+            (b"set e 0 0 2\r\nxx\r\n", b"STORED\r\n", 3, 67 + 66 + 67),
+            (b"delete d\r\n", b"DELETED\r\n", 2, 67 + 67),
+            (b"ms f 3\r\nabc\r\nmd e\r\n", b"HD\r\n" * 2, 2, 67 + 68),
+            (b"flush_all\r\nget f\r\n", b"OK\r\nEND\r\n", 0, 0),
+        ):
+            evicted += text[:5] in (b"set d", b"set e")
+            asked(client, text, answer)
+            shown = statistics(port)
+            want((text, shown["curr_items"], shown["bytes"], shown["evictions"]), (text, str(items), str(cost), str(evicted)))
+        shown = [int(shown[name]) for name in ("get_hits", "get_misses", "cmd_get", "cmd_set", "total_items", "expired", "no_memory")]
+        want(shown, [1, 1, 2, 9, 9, 0, 0])
+
+
+def bytes_that_are_kept_are_shown(program, proxy_program):
+    """Of a block that has arrived in part; and of a proxy also those for a server that reads nothing."""
+    port = free_port()
+    with server(program) as (started, admin), started.connected() as client:
+        client.sendall(b"set a 0 0 1000000\r\n" + b"x" * 900_000)
+        is_kept(admin.port, 900_000 - UNCOUNTED)
+    with Played.Server() as behind, Proxy(proxy_program, [behind.address], ["--admin", f"{HOST}:{port}", "--timeout", "0"]) as proxy:
+        with behind.accept() as link, proxy.connected() as client:
+            link.setsockopt(socket.SOL_SOCKET, socket.SO_RCVBUF, 65_536)
+            client.sendall(b"set a 0 0 1000000\r\n%s\r\n" % (b"x" * 1_000_000) * 7)
+            is_kept(port, 1_000_000)
+
+
+def is_kept(port, least):
+    """In a moment, this many bytes or more are."""
+    deadline = time.monotonic() + PATIENCE
+    while int(statistics(port)["buffered_bytes"]) < least:
+        want(time.monotonic() < deadline, True)
+        time.sleep(0.02)
+
+
+def who_finds_no_place_is_refused(program):
+    """It is no client for which there was no memory."""
+    with server(program) as (started, admin), contextlib.ExitStack() as stack:
+        clients = [stack.enter_context(started.connected()) for _ in range(1_024)]
+        is_served(clients[-1])
+        for number in (1, 2):
+            with started.connected() as further:
+                want(further.recv(1), b"")
+            shown = statistics(admin.port)
+            shown = [shown[name] for name in ("curr_connections", "total_connections", "rejected_connections", "no_memory")]
+            want(shown, ["1024", str(1_024 + number), str(number), "0"])
+
+
 def settings_are_shown(program):
     words = "--store lru --idle 7 --report 3600 --answer 2048 --buffers 8M --cas-from now --memory-exit 9 --reserve 128K".split()
     with server(program, *words) as (_, admin):
@@ -146,6 +250,18 @@ def memory_is_that_of_the_process(program):
                 asked(client, b"set %d 0 0 1000000\r\n%s\r\n" % (place, b"x" * 1_000_000), b"STORED\r\n")
 
 
+def page_names_what_it_shows(page):
+    """Behind each label are the metrics that it is about, and the columns of a proxy's servers have theirs."""
+    for label, metrics in LABELS.items():
+        [text] = re.findall(rf'\["{label}", (.*)\]', page)
+        want((label, re.findall(r'"((?:memcached|wiersbol|process)_\w+)"|\b(requests|hits|keys)\b', text)), (label, metrics))
+    named = dict(re.findall(r"""\b(requests|hits|keys) = (?:rate\()?(".*?"|'.*?')""", page))
+    want(named, NAMED)
+    [head] = re.findall(r"<thead><tr><th>(.*)</tr></thead>", page)
+    [row] = re.findall(r'fill\(at\("servers"\), (.*?)\);\n', page, re.DOTALL)
+    want(dict(zip(head.split("<th>")[1:], re.findall(r'of\("(\w+)", each\)', row), strict=True)), COLUMNS)
+
+
 def a_page_is_shown(program):
     """A browser may run the script of the page and use its style, and nothing else: their hashes are those of the texts that it is sent."""
     with server(program) as (_, admin):
@@ -153,11 +269,13 @@ def a_page_is_shown(program):
         want((status, fields["content-type"], fields["x-content-type-options"]), (200, "text/html; charset=utf-8", "nosniff"))
         want((fields["content-length"], fields["connection"]), (str(len(body)), "close"))
         policy = dict(part.strip().split(" ", 1) for part in fields["content-security-policy"].split(";"))
-        want((policy["default-src"], policy["connect-src"], policy["frame-ancestors"]), ("'none'", "'self'", "'none'"))
+        allowed = dict(POLICY)
         for tag in ("script", "style"):
             [text] = re.findall(rb"<%s>(.*?)</%s>" % (tag.encode(), tag.encode()), body, re.DOTALL)
             summed = base64.b64encode(hashlib.sha256(text).digest()).decode()
-            want((tag, policy[f"{tag}-src"]), (tag, f"'sha256-{summed}'"))
+            allowed[f"{tag}-src"] = f"'sha256-{summed}'"
+        want(policy, allowed)
+        page_names_what_it_shows(body.decode())
         want_at_most(len(body), 6_500)
         want((b"http:" in body, b"https:" in body, b"innerHTML" in body), (False, False, False))
         want(admin.got("/?once=1")[2], body)
@@ -203,6 +321,44 @@ def a_proxy_shows_its_servers(program, proxy_program):
             lines = admin.told(b"stats\r\nquit\r\n").splitlines()
             for part, number in ((b"up", 0), (b"losses", 1), (b"sent", 1), (b"lost", 0), (b"waiting", 0)):
                 want(b"STAT server:%s:%s %d" % (address, part, number) in lines, True)
+
+
+def a_proxy_shows_each_figure(proxy_program):
+    """Of two servers, each with other numbers: one has lost two links with four commands, and another has commands that wait."""
+    port = free_port()
+    with contextlib.ExitStack() as stack:
+        servers = [stack.enter_context(Played.Server()) for _ in range(2)]
+        words = [f"a:1={servers[0].address}", f"b:1={servers[1].address}"]
+        proxy = stack.enter_context(Proxy(proxy_program, words, ["--admin", f"{HOST}:{port}", "--timeout", "0"]))
+        first, second = (stack.enter_context(server.accept()) for server in servers)
+        client = stack.enter_context(proxy.connected())
+        gets = [stored(Ring(["a:1", "b:1"]).key(place))[2] for place in (0, 1)]
+        for count in (3, 1):
+            is_up(port, "a:1")
+            client.sendall(gets[0] * count)
+            want(received(first, count * len(gets[0])), gets[0] * count)
+            first.close()
+            want(received(client, count * len(LOST)), LOST * count)
+            first = stack.enter_context(servers[0].accept())
+        is_up(port, "a:1")
+        client.sendall(gets[0] + gets[1] * 9)
+        want(received(first, len(gets[0])), gets[0])
+        want(received(second, 9 * len(gets[1])), gets[1] * 9)
+        first.sendall(b"END\r\n")
+        second.sendall(b"END\r\n" * 3)
+        want(received(client, 4 * 5), b"END\r\n" * 4)
+        shown = statistics(port)
+        for name, numbers in (("a:1", (1, 2, 5, 4, 0)), ("b:1", (1, 0, 9, 0, 6))):
+            said = tuple(int(shown[f"server:{name}:{part}"]) for part in ("up", "losses", "sent", "lost", "waiting"))
+            want((name, said), (name, numbers))
+
+
+def is_up(port, name):
+    """In a moment, a server is."""
+    deadline = time.monotonic() + PATIENCE
+    while statistics(port)[f"server:{name}:up"] != "1":
+        want(time.monotonic() < deadline, True)
+        time.sleep(0.02)
 
 
 def settings_of_a_proxy_are_shown(proxy_program):
@@ -261,7 +417,11 @@ def clients_are_listed(program):
             version = b"version\r\n", VERSION
             passed = [str(len(LOAD[side]) + len(version[side])) for side in (0, 1)]
             want(([first["bytes_read"], first["bytes_written"]], [second["bytes_read"], second["bytes_written"]]), (passed, ["0", "0"]))
+            asked(client, b"set d 0 1 1\r\nx\r\n", b"STORED\r\n")
+            expired = int(statistics(admin.port)["expired"])
             time.sleep(2.1)
+            asked(client, b"get d\r\n", b"END\r\n")
+            want(int(statistics(admin.port)["expired"]), expired + 1)
             is_served(client)
             first, second = listed(admin.told(b"stats conns\r\nquit\r\n")).values()
             want((int(first["secs_since_last_cmd"]) <= 1, int(second["secs_since_last_cmd"]) >= 2), (True, True))
@@ -390,7 +550,8 @@ def heads_that_are_none_are_refused(program):
             (b"GET /metrics HTTP/1.2\r\nHost: localhost\r\n\r\n", b"400"),
             (b"GET /met\x01rics HTTP/1.1\r\nHost: localhost\r\n\r\n", b"400"),
             (b"GET /metrics HTTP/1.1\r\nHost localhost\r\n\r\n", b"400"),
-            (b"GET /metrics HTTP/1.1\r\nHost: localhost\r\n" + b"A: b\r\n" * 100 + b"\r\n", b"400"),
+            (b"GET /metrics HTTP/1.1\r\nHost: localhost\r\n" + b"A: b\r\n" * 63 + b"\r\n", b"200"),
+            (b"GET /metrics HTTP/1.1\r\nHost: localhost\r\n" + b"A: b\r\n" * 64 + b"\r\n", b"400"),
             (b"GET /favicon.ico HTTP/1.1\r\nHost: localhost\r\n\r\n", b"404"),
             (b"GET /metrics/ HTTP/1.1\r\nHost: localhost\r\n\r\n", b"404"),
             (b"GET http://localhost/metrics HTTP/1.1\r\nHost: localhost\r\n\r\n", b"404"),
@@ -521,16 +682,20 @@ def it_ends_with_its_clients(program):
 
 
 def an_address_that_is_none_is_told(program, *others):
+    """With --log the second line has the address and the cause."""
     asked_for = Program(program)
     for admin in ("127.0.0.1", "127.0.0.1:0", "x:y", ""):
-        status, output, errors = asked_for.run("--listen", f"{HOST}:{free_port()}", "--admin", admin, *others)
-        want((status, output, "cannot listen" in errors), (3, "", True))
+        words = ["--listen", f"{HOST}:{free_port()}", "--admin", admin, *others]
+        want(asked_for.run(*words), (3, "", f"{asked_for.name}: cannot listen\n"))
+        status, output, said = asked_for.run(*words, "--log")
+        told = f"{asked_for.name}: cannot listen\n{asked_for.name}: {admin}: not <host>:<port>\n"
+        want((status, output, plain_lines(said, "--log")), (3, "", told))
 
 
 def checks_of(program, proxy_program):
     shown = [
         metrics_are_shown, statistics_are_shown, settings_are_shown, it_says_that_it_serves, memory_is_that_of_the_process, a_page_is_shown,
-        numbers_grow,
+        numbers_grow, figures_of_items_follow_each_change, who_finds_no_place_is_refused,
     ]  # fmt: skip
     come = [a_byte_at_a_time, lines_are_answered_in_order, the_cache_is_not_reached]
     refused = [
@@ -550,6 +715,9 @@ def checks_of(program, proxy_program):
     yield "a_flood_of_lists_costs_little", a_flood_costs_little, (program, b"stats conns\r\n", 500)
     yield "an_address_that_is_none_is_told", an_address_that_is_none_is_told, (program,)
     yield "an_address_of_a_proxy_that_is_none_is_told", an_address_that_is_none_is_told, (proxy_program, "127.0.0.1:1")
+    yield "the_process_is_shown", the_process_is_shown, (program, proxy_program)
+    yield "bytes_that_are_kept_are_shown", bytes_that_are_kept_are_shown, (program, proxy_program)
+    yield "a_proxy_shows_each_figure", a_proxy_shows_each_figure, (proxy_program,)
     yield "a_proxy_shows_its_servers", a_proxy_shows_its_servers, (program, proxy_program)
     yield "settings_of_a_proxy_are_shown", settings_of_a_proxy_are_shown, (proxy_program,)
     yield "a_proxy_shows_its_choice", a_proxy_shows_its_choice, (proxy_program,)

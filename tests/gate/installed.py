@@ -9,7 +9,7 @@ which: tests/gate/serverd.help and tests/gate/proxyd.help, which the gate compar
 name are in there too. The first setting of a name in a file of install/default is the one that the unit has without the file. Some wrong
 words are tried too.
 
-Each third-party library that a program of the package uses, by crates.txt, is named in install/debian/libraries. The last line is 'N passed,
+The first heading of CHANGELOG.md has the version that programs print. Each third-party library that a program of the package uses, by crates.txt, is named in install/debian/libraries. The last line is 'N passed,
 M failed'.
 """
 
@@ -20,7 +20,7 @@ import sys
 
 sys.path.insert(0, str(pathlib.Path(__file__).resolve().parents[1] / "lib"))
 
-from checks import Wrong, tally
+from checks import VERSION, Wrong, tally
 from suite import TESTS, TOP
 
 INSTALL = TOP / "install"
@@ -165,7 +165,15 @@ def is_named(library):
         raise Wrong("install/debian/libraries does not name it")
 
 
+def version_is_that_of_the_changes():
+    """The first heading of CHANGELOG is about the version that programs print."""
+    said = VERSION.partition(" ")[0]
+    if not (TOP / "CHANGELOG.md").read_text().startswith(f"# Changes\n\n## {said}"):
+        raise Wrong(f"CHANGELOG.md does not begin with {said}")
+
+
 def checks():
+    yield "version", version_is_that_of_the_changes, ()
     for files, wrong in zip(FILES, WRONG):
         yield from checks_of(*files, wrong)
     for library in used():

@@ -68,6 +68,9 @@ SETTINGS = {
     "one_that_joins": ("--join b:1 --join-after 1", "servers 1 points 160"),
     "the_longest_host": ("a-Z.9" * 51 + ":65535", "servers 2 points 320"),
     "losses_that_are_missed": ("--lost missed b:2", "servers 2 points 320 lost missed"),
+    "the_most_memory": ("--buffers 1024G --answer 1024G --held 1024G b:2", "servers 2 points 320 buffers 1099511627776 answer 1099511627776"),
+    "the_least_held": ("--held 1 b:2", "servers 2 points 320"),
+    "the_usual_memory": ("--buffers 256M --answer 256M --held 256M --lost told b:2", "servers 2 points 320"),
     "little_memory": ("--buffers 4M --answer 1K b:2", "servers 2 points 320 buffers 4194304 answer 1024"),
     "names": ("a:1=b:2 --join c:3=b:2 --join-after 1 b:2=127.0.0.1:1", "servers 3 points 480"),
     "an_address_with_its_own_name": ("b:2=b:2", "servers 2 points 320"),
@@ -119,6 +122,7 @@ BAD_LISTS = {
     "one_of_the_list_joins": (["--join-after", "1", "--join", "127.0.0.1:1"], f"--join '127.0.0.1:1' {DOUBLED}"),
     "the_name_of_one_joins": (["--join-after", "1", "--join", "127.0.0.1:1=b:1"], f"--join '127.0.0.1:1=b:1' {DOUBLED}"),
     "no_named_address_joins": (["--join-after", "1", "--join", "a:1=b"], f"--join 'a:1=b' {NO_SERVER}"),
+    "another_address_for_a_name_joins": (["--join-after", "1", "--join", "b:1=127.0.0.1:1", "b:1"], f"--join 'b:1=127.0.0.1:1' {DOUBLED}"),
     "a_65th_joins": (["--join-after", "1", "--join", "a:1", *OTHERS[1:]], f"--join 'a:1' {ONE_TOO_MANY}"),
 }
 
@@ -162,6 +166,23 @@ def sizes_are_within_their_limits():
     wrong_sizes_are_refused(PROXY, "buffers", 4_194_304)
     wrong_sizes_are_refused(PROXY, "answer", 1024)
     want(PROXY.run("--check", "--held=256m"), (0, "servers 1 points 160\n", ""))
+
+
+def names_of_operators_are_hosts():
+    told = "mc_proxyd: invalid value for '--admin-name <host>': not 1 to 255 letters, digits, dots and hyphens\n"
+    for word in ("a b", "a:1", "http://a", "a" * 256):
+        want((word, PROXY.run("--check", "--admin-name", word)), (word, (2, "", told)))
+
+
+def descriptors_of_all_others_are_kept():
+    """Beside the link of one server: those of operators, and that of a server that joins."""
+    admin = f"{HOST}:{free_port()}"
+    with Server(SERVER) as server:
+        for words, own in (([], 6), (["--admin", admin], 6 + 17), (["--join", f"{HOST}:1", "--join-after", "9"], 7)):
+            limits = [(resource.RLIMIT_NOFILE, own + 3)]
+            with Proxy(PROXY.path, [server.address], words, limits, stderr=subprocess.PIPE) as proxy, proxy.connected() as client:
+                is_served(client)
+                is_said(proxy, f"{own + 3} open files: 3 connections can be served at a time")
 
 
 # Keys and their servers.
@@ -356,11 +377,11 @@ def a_reply_without_memory_is_said():
 
 
 def a_join_that_is_refused_is_said_and_tried_again():
-    """With the next client: until then the ring is as it was."""
+    """With the next client: until then the ring is as it was. Once it has joined no later client changes anything."""
     with contextlib.ExitStack() as stack:
         servers = [stack.enter_context(Played.Server()) for _ in range(61)]
-        *addresses, joins = [server.address for server in servers]
-        words = ["--join", joins, "--join-after", "2"]
+        addresses, joins = [server.address for server in servers[:60]], "late:1"
+        words = ["--join", f"{joins}={servers[60].address}", "--join-after", "2"]
         proxy = stack.enter_context(Proxy(PROXY.path, addresses, words, stderr=subprocess.PIPE))
         first = stack.enter_context(proxy.connected())
         for server in servers[:60]:
@@ -375,7 +396,11 @@ def a_join_that_is_refused_is_said_and_tried_again():
         link = stack.enter_context(servers[60].accept())
         is_served(third)
         is_said(proxy, f"{joins} joined")
+        for _ in range(2):
+            is_served(stack.enter_context(proxy.connected()))
         is_asked_and_answers(link, first, Ring([*addresses, joins]).key(60))
+        time.sleep(1.1)  # At most one line in a second is written of it.
+        nothing_is_said(proxy)
 
 
 def at_most_one_line_is_said_in_a_second():
@@ -792,10 +817,13 @@ def is_sent(client, link, text):
 
 
 def a_server_that_answers_no_command_is_tried_less():
-    """It answers that it is there, and then nothing: it is tried again later each time, so that its keys seldom wait for a timeout. Once it has answered
-    a command, it is tried again at once."""
+    """It answers that it is there, and then nothing, though it has answered a command before: it is tried again later each time, so that its keys seldom
+    wait for a timeout. Once it has answered a command, it is tried again at once."""
     with Played(1, ["--timeout", "200"]) as pool, pool.connected() as client:
-        link, waited = pool.links[0], []
+        waited = []
+        is_asked_and_answers(pool.links[0], client, b"a")
+        pool.links[0].close()
+        link = pool.stack.enter_context(pool.servers[0].accept())
         for _ in range(5):
             is_sent(client, link, b"get a\r\n")
             want(received(client, len(LOST)), LOST)
@@ -859,23 +887,23 @@ def a_report_is_said():
     with Played(2, ["--report", "1", "--timeout", "0"]) as pool, pool.connected() as client:
         keys = [pool.ring.key(place) for place in (0, 1)]
         gets = [b"get %s\r\n" % key for key in keys]
-        client.sendall(gets[0] * 3 + gets[1] + b"version\r\n")
+        client.sendall(gets[0] * 3 + gets[1] * 2 + b"version\r\n")
         want(received(pool.links[0], 3 * len(gets[0])), gets[0] * 3)
-        want(received(pool.links[1], len(gets[1])), gets[1])
+        want(received(pool.links[1], 2 * len(gets[1])), gets[1] * 2)
         pool.links[0].sendall(b"END\r\n" * 2)
         pool.links[1].sendall(b"?\r\n")
         want(received(client, 10), b"END\r\n" * 2)
         fields = {}
-        while fields.get("read") != str(3 * len(gets[0]) + len(gets[1]) + 9):
+        while fields.get("read") != str(3 * len(gets[0]) + 2 * len(gets[1]) + 9):
             fields = fields_of(next_report(pool), "mc_proxyd")
         servers = [fields_of(line, "mc_proxyd") for line in lines_said(pool, 2)]
         want(int(fields.pop("uptime")) >= 1, True)
         want(0 <= int(fields.pop("buffered")) <= 65_536, True)
-        wanted = dict(connections=1, accepted=1, refused=0, requests=5, read=int(fields["read"]), written=10)
+        wanted = dict(connections=1, accepted=1, refused=0, requests=6, read=int(fields["read"]), written=10)
         want(fields, {key: str(number) for key, number in wanted.items()})
         first, second = (server.address for server in pool.servers)
         want(servers[0], dict(server=first, state="up", losses="0", sent="3", lost="0", waiting="1"))
-        want({key: servers[1][key] for key in ("server", "losses", "sent", "lost")}, dict(server=second, losses="1", sent="1", lost="1"))
+        want({key: servers[1][key] for key in ("server", "losses", "sent", "lost")}, dict(server=second, losses="1", sent="2", lost="2"))
 
 
 def next_report(pool):
@@ -897,6 +925,8 @@ def checks():
     yield no_client_gets_a_standard_stream.__name__, no_client_gets_a_standard_stream, (PROXY,)
     for check in (
         no_server_is_refused,
+        names_of_operators_are_hosts,
+        descriptors_of_all_others_are_kept,
         sizes_are_within_their_limits,
         hashes_of_the_model,
         each_key_is_at_its_owner,

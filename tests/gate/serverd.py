@@ -13,8 +13,11 @@ import re
 import resource
 import select
 import signal
+import socket
+import struct
 import subprocess
 import sys
+import tempfile
 import threading
 import time
 
@@ -24,8 +27,9 @@ from checks import (
     FORMS, KILOBYTE, MARK, PATIENCE, Program, Wrong, asked, checks_of_words, is_served, plain_lines, received, received_to_the_end,
     settles, tally, want, want_at_most, wrong_sizes_are_refused,
 )  # fmt: skip
+from clocks import Clocks
 from connections import checks_of_connections, fields_of, lines_said, no_client_gets_a_standard_stream, suppressed_of
-from servers import HOST, Listener, connected, free_port
+from servers import HOST, Listener, connected, free_port, limit, statistics
 from suite import are_built
 
 HELP = pathlib.Path(__file__).with_name("serverd.help").read_text()
@@ -42,9 +46,11 @@ SETTINGS = {
     ),
     "the_greatest": (
         "--listen=Cache-7.example.org:65535 --budget=1099511627776 --items=16777216 --accept=18446744073709551615"
-        " --answer=1099511627776 --buffers=1099511627776 --idle=18446744073709551615 --report=18446744073709551615",
+        " --answer=1099511627776 --buffers=1099511627776 --idle=18446744073709551615 --report=18446744073709551615"
+        " --memory-exit=18446744073709551615 --reserve=1073741824",
         "listen Cache-7.example.org:65535 budget 1099511627776 items 16777216 accept 18446744073709551615"
-        " answer 1099511627776 buffers 1099511627776 idle 18446744073709551615 report 18446744073709551615",
+        " answer 1099511627776 buffers 1099511627776 idle 18446744073709551615 report 18446744073709551615"
+        " memory-exit 18446744073709551615 reserve 1073741824",
     ),
     "the_defaults_in_words": (
         "--answer 268435456 --buffers 268435456 --idle 0 --report 0 --items 65536 --store table",
@@ -161,19 +167,19 @@ COUNTED = {
 }
 
 
-def start(words="", limits=(), says=True):
+def start(words="", limits=(), says=True, environment=None):
     """A server that was started with these words and limits, and has reported where it listens, if it can."""
     port = free_port()
     words = ["--listen", f"{HOST}:{port}", *words.split()]
     with open("/dev/full", "wb") as full:
         stdout = subprocess.PIPE if says else full
-        return Listener(PROGRAM.path, words, port, limits, stdout=stdout, stderr=subprocess.PIPE)
+        return Listener(PROGRAM.path, words, port, limits, stdout=stdout, stderr=subprocess.PIPE, environment=environment)
 
 
 def no_memory_to_start_is_told():
-    """Whatever is refused at the start, before it reports that it listens."""
-    for items, most in (("16777216", 100_000), ("1000000", 60_000)):
-        words = ["--listen", f"{HOST}:{free_port()}", "--items", items]
+    """Whatever is refused at the start, the reserve too, before it reports that it listens."""
+    for words, most in ((["--items", "16777216"], 100_000), (["--items", "1000000"], 60_000), (["--reserve", "128M"], 100_000)):
+        words = ["--listen", f"{HOST}:{free_port()}", *words]
         want(PROGRAM.run(*words, limits=[(resource.RLIMIT_AS, most * KILOBYTE)]), (4, "", "mc_serverd: out of memory\n"))
 
 
@@ -240,6 +246,10 @@ SAID_OF_MEMORY = {
         "may take 6.5 GB: budget 4.0 GB, 16,777,216 items, buffers 268.4 MB",
         "16,777,216 items of 120 bytes fill 3.1 GB of 4.0 GB",
     ],
+    "--budget 1000000000 --items 1005": [
+        "may take 1.4 GB: budget 1.0 GB, 1,005 items, buffers 268.4 MB",
+        "1,005 items of 120 bytes fill 0.2 MB of 1.0 GB: write --items auto",
+    ],
     "--budget 18400 --items 100": ["may take 306.2 MB: budget 0.0 MB, 100 items, buffers 268.4 MB"],
     "--budget 18401 --items 100": [
         "may take 306.2 MB: budget 0.0 MB, 100 items, buffers 268.4 MB",
@@ -267,6 +277,48 @@ def said_at_the_start(words, form="", limits=()):
         said = plain_lines(server.process.stderr.read().decode(), form)
     said = re.sub(r"; limit [0-9.]+ [MG]B \(control group\)", "", said)
     return [line.removeprefix("mc_serverd: ") for line in said.splitlines()]
+
+
+# Control groups: the system's lines about a process, the files below /sys/fs/cgroup, the most bytes of addresses, and the limit that is said.
+GROUPS = {
+    "of its own": ("0::/a/b\n", {"a/b/memory.max": "80000000\n", "a/memory.max": "90000000\n"}, None, "80.0 MB (control group)"),
+    "of a group above": ("0::/a/b\n", {"a/b/memory.max": "max\n", "a/memory.max": "90000000\n"}, None, "90.0 MB (control group)"),
+    "of all groups": ("0::/a\n", {"memory.max": "70000000\n"}, None, "70.0 MB (control group)"),
+    "of version 1": (
+        "9:cpu:/b\n4:memory:/a\n0::/\n",
+        {"memory/a/memory.limit_in_bytes": "60000000\n", "memory/b/memory.limit_in_bytes": "1\n", "b/memory.max": "1\n"},
+        None,
+        "60.0 MB (control group)",
+    ),
+    "of both": ("4:memory:/a\n0::/a\n", {"memory/a/memory.limit_in_bytes": "60000000\n", "a/memory.max": "50000000\n"}, None, "50.0 MB (control group)"),
+    "below that of addresses": ("0::/a\n", {"a/memory.max": "90000000\n"}, 200_000_000, "90.0 MB (control group)"),
+    "above that of addresses": ("0::/a\n", {"a/memory.max": "300000000\n"}, 200_000_000, "200.0 MB (ulimit -v)"),
+    "just below what it may take": ("0::/a\n", {"a/memory.max": "385330707\n"}, None, "385.3 MB (control group)"),
+    "not below what it may take": ("0::/a\n", {"a/memory.max": "385330708\n"}, None, None),
+    "of another group": ("0::/a/b\n", {"b/memory.max": "1\n", "a/c/memory.max": "1\n"}, None, None),
+    "none": ("0::/a\n4:memory:/\n", {"a/memory.max": "max\n", "memory/memory.limit_in_bytes": "9223372036854771712\n"}, None, None),
+}
+
+
+def the_limit_of_a_control_group_is_said(lines, files, most, said):
+    """With a file system of its own in place of that of groups, and a file in place of the system's about the process."""
+    with tempfile.TemporaryDirectory() as folder:
+        own, groups = pathlib.Path(folder, "cgroup"), pathlib.Path(folder, "groups")
+        own.write_text(lines)
+        for name, text in files.items():
+            file = groups / name
+            file.parent.mkdir(parents=True, exist_ok=True)
+            file.write_text(text)
+        groups.mkdir(exist_ok=True)
+        put = f'mount --bind {groups} /sys/fs/cgroup && mount --bind {own} /proc/$$/cgroup && exec "$@"'
+        words = ["unshare", "--map-root-user", "--mount", "sh", "-c", put, "sh", PROGRAM.path, "--listen", f"{HOST}:{free_port()}", "--log"]
+        limits = [(resource.RLIMIT_AS, most)] if most else []
+        with subprocess.Popen(words, stdout=subprocess.PIPE, stderr=subprocess.PIPE, preexec_fn=lambda: limit(limits)) as server:
+            server.stdout.readline()
+            server.terminate()
+            line = plain_lines(server.stderr.read().decode(), "--log").splitlines()[0]
+    told = "mc_serverd: may take 385.3 MB: budget 67.1 MB, 65,536 items, buffers 268.4 MB"
+    want(line, f"{told}; limit {said}" if said else told)
 
 
 def a_server_that_is_full_of_items_says_so():
@@ -533,6 +585,27 @@ def idle_connections_hold_little():
                 client.close()
 
 
+def what_is_due_in_hours_is_done_by_the_clock():
+    """An item expires at its second, and not before; likewise a flush that was asked for, and a client that is idle for hours is closed. The
+    script sets the server's clock ahead, so nobody waits."""
+    with tempfile.TemporaryDirectory() as folder:
+        clocks = Clocks(folder)
+        with start("--idle 20000", environment=clocks.environment) as server, server.connected() as idle, server.connected() as client:
+            is_served(idle)
+            asked(client, b"set a 0 3600 1\r\nx\r\nset b 0 0 1\r\ny\r\n", b"STORED\r\nSTORED\r\n")
+            clocks.set_ahead(3_500)
+            asked(client, b"get a b\r\n", b"VALUE a 0 1\r\nx\r\nVALUE b 0 1\r\ny\r\nEND\r\n")
+            clocks.set_ahead(3_600)
+            asked(client, b"get a b\r\nflush_all 3600\r\n", b"VALUE b 0 1\r\ny\r\nEND\r\nOK\r\n")
+            clocks.set_ahead(7_100)
+            asked(client, b"get b\r\n", b"VALUE b 0 1\r\ny\r\nEND\r\n")
+            clocks.set_ahead(7_200)
+            asked(client, b"get b\r\n", b"END\r\n")
+            clocks.set_ahead(30_000)
+            is_served(client)
+            want(received_to_the_end(idle), b"")
+
+
 def no_memory_closes_connections_alone():
     """If there is no memory for the bytes of clients, they are answered or closed, and the server continues."""
     limits = [(resource.RLIMIT_AS, 40_000 * KILOBYTE), (resource.RLIMIT_NOFILE, 2_000)]
@@ -552,6 +625,32 @@ def no_memory_closes_connections_alone():
         want(b"STORED\r\n" in answers and len(answers) > 1, True)
         with server.connected() as client:
             is_served(client)
+
+
+def a_client_that_breaks_off_is_no_want_of_memory():
+    """Connections are reset before their bytes are read, in the middle of a block, and while answers are written. None is counted as a call that
+    was refused memory."""
+    admin = free_port()
+    with start(f"--admin {HOST}:{admin}") as server, server.connected() as other:
+        asked(other, b"set k 0 0 1000000\r\n" + VALUE + b"\r\n", b"STORED\r\n")
+        for sent in (b"version\r\n" * 1_000, b"set a 0 0 9\r\nxy", b"get k\r\n" * 20):
+            for _ in range(10):
+                broken = server.connected()
+                broken.sendall(sent)
+                is_served(other)
+                broken.setsockopt(socket.SOL_SOCKET, socket.SO_LINGER, struct.pack("ii", 1, 0))
+                broken.close()
+        deadline = time.monotonic() + PATIENCE
+        while (shown := statistics(admin))["curr_connections"] != "1":
+            want(time.monotonic() < deadline, True)
+        want((shown["total_connections"], shown["rejected_connections"], shown["no_memory"]), ("31", "0", "0"))
+
+
+def too_few_descriptors_for_operators_let_clients_in():
+    """If the open files leave no client beside operators, these keep none: clients are served, as many as there are files."""
+    with start(f"--admin {HOST}:{free_port()}", [(resource.RLIMIT_NOFILE, 20)]) as server, server.connected() as client:
+        is_served(client)
+        want(lines_said(server), ["mc_serverd: 20 open files: 0 connections can be served at a time"])
 
 
 def operators_keep_their_descriptors():
@@ -838,14 +937,19 @@ def checks():
         blocks_with_their_memory_go_on,
         a_report_is_said,
         idle_connections_hold_little,
+        what_is_due_in_hours_is_done_by_the_clock,
         no_memory_closes_connections_alone,
+        a_client_that_breaks_off_is_no_want_of_memory,
         operators_keep_their_descriptors,
+        too_few_descriptors_for_operators_let_clients_in,
         no_memory_ends_nobody_else,
         a_store_ends_the_row_of_refusals,
         a_reserve_that_was_used_comes_back,
         names_of_operators_are_hosts,
     ):
         yield check.__name__, check, ()
+    for name, case in GROUPS.items():
+        yield f"the limit of a control group, {name}", the_limit_of_a_control_group_is_said, case
     for sizes in ((100,), (5_000,), (10_000,), (100, 5_000), (100, 10_000)):
         name = ", then ".join(map(str, sizes))
         yield f"no memory ends who is asked to, {name} bytes", no_memory_ends_who_is_asked_to, (sizes,)

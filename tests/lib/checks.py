@@ -217,6 +217,11 @@ def why_it_cannot_listen_is_told(program):
     status, _, said = program.run("--listen=a", "--log=json", env=journal)
     want((status, plain_lines(said, "--log=json")), (3, told))
     want(plain_lines(said_at_a_terminal(program, "--listen=a", "--log=json"), "--log=json"), told)
+    # Characters that JSON does not show as they are.
+    for listen in ('a"b:1', "a\\b:1", "\ta\n:1", "\x01\x1f:1", "\u00e4\U0001f600:1"):
+        status, _, said = program.run(f"--listen={listen}", "--log=json")
+        lines = [json.loads(line)["text"] for line in said.splitlines()]
+        want((status, lines), (3, ["cannot listen", f"{listen}: not <host>:<port>"]))
     # With one file beside its streams it has a listener, and no poll of its sockets.
     listen = f"{HOST}:{free_port()}"
     told = f"{program.name}: cannot listen\n{program.name}: {listen}: too many open files\n"

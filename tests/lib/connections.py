@@ -291,6 +291,13 @@ def lines_have_their_form(start, name, own):
         want(any(line.endswith(f" refused: {BINARY}") for line in lines), True)
 
 
+def a_report_is_said_though_nobody_connects(start, name):
+    """After its second, without an event."""
+    with start("--report 1") as program:
+        fields = fields_of(lines_said(program)[0], name)
+        want((fields["uptime"] in ("1", "2"), fields["accepted"], fields["requests"]), (True, "0", "0"))
+
+
 # Strangers.
 
 HTTP, BINARY, TLS = (
@@ -545,6 +552,7 @@ def checks_of_connections(start, program, own, more_dialogues={}, full="too many
         yield f"no stranger, {text}", a_text_is_none_of_a_stranger, (start, sent, answer)
     yield strangers_are_told_once_in_a_second.__name__, strangers_are_told_once_in_a_second, (start, program)
     yield suppressed_lines_are_counted.__name__, suppressed_lines_are_counted, (start, program)
+    yield a_report_is_said_though_nobody_connects.__name__, a_report_is_said_though_nobody_connects, (start, program)
     yield few_open_files_are_told.__name__, few_open_files_are_told, (start, program, own)
     yield lines_have_their_form.__name__, lines_have_their_form, (start, program, own)
     yield no_descriptors_are_waited_for.__name__, no_descriptors_are_waited_for, (start, program, own, full)

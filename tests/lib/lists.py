@@ -26,6 +26,7 @@ GOOD = {
     "names": "a:1=127.0.0.1:1\nb:1=127.0.0.1:1\n",
     "no_text_in_a_comment": b"127.0.0.1:1 # \xff\n",
     "the_most": "".join(f"10.0.0.{number}:1\n" for number in range(64)),
+    "the_longest": "127.0.0.1:1\n".ljust(MOST_BYTES, "#"),
 }
 
 BAD = {
@@ -44,14 +45,14 @@ BAD = {
 
 
 class Listed:
-    """Servers, a file that lists them, and a proxy with that file."""
+    """Servers, a file that lists them, and a proxy with that file. They may have names of their own."""
 
-    def __init__(self, count=2, words=(), first=(), **limits):
+    def __init__(self, count=2, words=(), first=(), named=False, **limits):
         self.stack = contextlib.ExitStack()
         with self.stack:
             self.file = pathlib.Path(self.stack.enter_context(tempfile.TemporaryDirectory())) / "servers"
             self.servers = [self.new_server() for _ in range(count)]
-            self.names = [*first, *(server.address for server in self.servers)]
+            self.names = [*first, *(f"s:{place + 1}={server.address}" if named else server.address for place, server in enumerate(self.servers))]
             self.write(self.text())
             self.proxy = self.enter_proxy(words, **limits)
             self.stack = self.stack.pop_all()
@@ -379,8 +380,9 @@ def carriage_returns_and_order_of_writes_are_ignored():
 
 
 def nothing_is_taken_of_a_file_that_is_being_written():
-    """It is emptied, and written again at once: nothing is reported."""
-    with Listed() as listed:
+    """It is emptied, and written again at once: nothing is reported. Its servers are where it says, by their names."""
+    with Listed(named=True) as listed, listed.proxy.connected() as client:
+        keys_are_at_owners(listed, client, listed.servers, ["s:1", "s:2"])
         for _ in range(20):
             listed.file.write_text("")
             time.sleep(0.05)

@@ -7,6 +7,7 @@ Usage: lookups.py PROXY SERVER
 It prints a line for each check that fails; the last line is 'N passed, M failed'.
 """
 
+import collections
 import contextlib
 import os
 import pathlib
@@ -47,10 +48,10 @@ def in_a_network_of_its_own(proxy, server):
 
 class NameServer:
     """Answers each look-up of a name in `known` by 127.0.0.1, as many seconds late as `known` says, and one of a name in `unknown` by
-    NXDOMAIN. To all others it is silent, until the name is known."""
+    NXDOMAIN. To all others it is silent, until the name is known. `asked` counts the queries for the IPv4 address of a name."""
 
     def __init__(self):
-        self.known, self.unknown, self.unanswered = {}, set(), []
+        self.known, self.unknown, self.unanswered, self.asked = {}, set(), [], collections.Counter()
         self.socket = socket.socket(socket.AF_INET, socket.SOCK_DGRAM)
         self.socket.bind((HOST, 53))
         threading.Thread(target=self.serve, daemon=True).start()
@@ -62,6 +63,8 @@ class NameServer:
             while query[end]:
                 name.append(query[end + 1 : end + 1 + query[end]].decode())
                 end += 1 + query[end]
+            if query[end + 1 : end + 3] == struct.pack("!H", 1):
+                self.asked[".".join(name)] += 1
             self.answer(".".join(name), query, query[12 : end + 5], client)
 
     def know(self, name, seconds=0):
@@ -258,15 +261,25 @@ def an_answer_after_the_try_is_taken():
             want(threads_of(proxy), OWN)
 
 
+def connections_begun():
+    """How many connections were begun in this network."""
+    names, numbers = (line.split() for line in pathlib.Path("/proc/net/snmp").read_text().splitlines() if line.startswith("Tcp:"))
+    return int(dict(zip(names, numbers))["ActiveOpens"])
+
+
 def a_name_that_nobody_knows_is_refused_at_once():
+    """It is looked up again after more than a second, and then after more. A server that refuses is tried less and less."""
     NAMES.unknown.add("nobody.example")
-    place = "nobody.example:1"
-    begun = time.monotonic()
-    with in_front([], [place]) as proxy, proxy.connected() as client:
+    place, gone = "nobody.example:1", f"{HOST}:1"
+    begun, before = time.monotonic(), connections_begun()
+    with in_front([], [gone, place]) as proxy, proxy.connected() as client:
         asked(client, b"get a\r\n", LOST)
         want_at_most(time.monotonic() - begun, 1)
-        is_said(proxy, f"{place} refused: unknown host")
+        is_said(proxy, f"{gone} refused: connection refused", f"{place} refused: unknown host")
+        queries = NAMES.asked["nobody.example"]  # of the first look-up
         time.sleep(3)
+        look_ups, tries = NAMES.asked["nobody.example"] // queries, connections_begun() - before - 1
+        want((look_ups, tries, look_ups in (2, 3), tries in (4, 5, 6)), (look_ups, tries, True, True))
         want_at_most(proxy.processor_time(), 0.1)
 
 

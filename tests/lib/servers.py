@@ -81,8 +81,9 @@ def address_on(on, port):
 
 
 def limit(limits):
+    """Sets limits of this process. Their upper limits stay: a program that reports one of these reports another number."""
     for name, most in limits:
-        resource.setrlimit(name, (most, most))
+        resource.setrlimit(name, (most, resource.getrlimit(name)[1]))
 
 
 class Listener:

@@ -1,7 +1,7 @@
-//! Tests of links, proxies and worlds, for what no clause says and no script can bring about.
+//! Tests of rings, links, proxies and worlds, for what no clause says and no script can bring about.
 //!
-//! `mc_server_tests` has the tests of servers. The expected answers are worked out by hand from the protocol's rules, and
-//! are never taken from what the program wrote.
+//! `mc_server_tests` has the tests of servers. The expected answers are worked out by hand from the protocol's rules, or are another
+//! program's figures, and are never taken from what the program wrote.
 //!
 //! # Threads
 //!
@@ -12,6 +12,8 @@
 
 #[cfg(test)]
 mod errors;
+#[cfg(test)]
+mod joins;
 #[cfg(test)]
 mod lent;
 #[cfg(test)]
@@ -24,6 +26,8 @@ mod proxies;
 mod proxy_pumps;
 #[cfg(test)]
 mod requests;
+#[cfg(test)]
+mod rings;
 #[cfg(test)]
 mod runs;
 #[cfg(test)]

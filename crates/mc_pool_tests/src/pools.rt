@@ -26,6 +26,8 @@ enum Step {
     Loses(usize, &'static [u8]),
     /// A link comes up, in this generation.
     Returns(usize, u64),
+    /// Whether a session is finished: it is closed to input, and all that was taken of it is answered.
+    Ends(u64, bool),
     /// A client goes.
     Goes(u64),
     /// A client connects, under this number.
@@ -34,10 +36,10 @@ enum Step {
     Joins(&'static [u8], usize),
 }
 
-use Step::{Asks, Comes, Goes, Hears, Joins, Loses, Returns, Sends, Tells};
+use Step::{Asks, Comes, Ends, Goes, Hears, Joins, Loses, Returns, Sends, Tells};
 
 /// `a` belongs to the second server, `abc` and `b` to the first. Both links are up, and two clients are admitted.
-const DIALOGUES: [&[Step]; 10] = [
+const DIALOGUES: [&[Step]; 11] = [
     // two clients, each answered in the order of its keys and requests, though replies arrive in another
     &[
         Asks(0, b"get abc a\r\n", 1),
@@ -135,9 +137,19 @@ const DIALOGUES: [&[Step]; 10] = [
     ],
     // a refused line, a quiet request and `quit`
     &[
-        Asks(0, b"get\r\nmg a v q\r\nquit\r\nget a\r\n", 3),
+        Asks(0, b"get\r\nmg a v q\r\n", 2),
+        Asks(1, b"quit\r\n", 1),
+        Ends(0, false),
+        Ends(1, false),
+        Asks(0, b"quit\r\nget a\r\n", 1),
         Hears(1, b"EN\r\n", Took),
+        Ends(0, false),
         Tells(0, 3, b"ERROR\r\n"),
+        Ends(0, true),
+        Tells(1, 1, b""),
+        Ends(1, true),
+        Goes(1),
+        Ends(1, false),
     ],
     // requests of a client that has gone are sent; a later client gets no answer to them, and all of its own, over a loss too
     &[
@@ -252,6 +264,34 @@ const DIALOGUES: [&[Step]; 10] = [
             b"SERVER_ERROR link lost\r\nSERVER_ERROR link lost\r\n",
         ),
         Returns(1, 5),
+    ],
+    // and so does a reply to `get` with an error line, with a value above the limit, or with a value of more bytes than it says
+    &[
+        Asks(0, b"get a\r\nset a 0 0 1\r\nx\r\n", 2),
+        Hears(1, b"ER", Strange),
+        Tells(
+            0,
+            2,
+            b"SERVER_ERROR link lost\r\nSERVER_ERROR link lost\r\n",
+        ),
+        Returns(1, 2),
+        Asks(0, b"get a abc\r\nget a\r\n", 2),
+        Hears(0, b"END\r\n", Took),
+        Hears(1, b"VALUE a 0 1048577", Strange),
+        Tells(
+            0,
+            2,
+            b"SERVER_ERROR link lost\r\nSERVER_ERROR link lost\r\n",
+        ),
+        Returns(1, 3),
+        Asks(0, b"get a\r\nget a\r\n", 2),
+        Hears(1, b"VALUE a 0 1\r\nx\r\nEND\r\nVALUE a 0 1\r\nxy", Strange),
+        Tells(
+            0,
+            2,
+            b"VALUE a 0 1\r\nx\r\nEND\r\nSERVER_ERROR link lost\r\n",
+        ),
+        Returns(1, 4),
     ],
 ];
 
@@ -407,6 +447,7 @@ fn goes_so(alloc: Global, proxy: &mut Proxy, step: &Step) -> Result<bool, ProxyE
         }
         Loses(server, bytes) => proxy.lost(*server)?.as_slice() == *bytes,
         Returns(server, generation) => proxy.back(*server)? == *generation,
+        Ends(session, is_finished) => proxy.finished(*session) == *is_finished,
         Goes(session) => {
             proxy.gone(*session)?;
             true

@@ -6,7 +6,7 @@ use mc_reply::{Marks, Reply, Shown};
 use mc_request::{
     Atom, Counting, Creation, Direction, MetaCommand, MetaGet, Show, StoreMode, Update,
 };
-use mc_store::ListStore;
+use mc_store::{ListStore, Store};
 use mc_text::{Block, Key, KeyError};
 use std::alloc::{AllocError, Global};
 use std::test::Fail;
@@ -139,10 +139,22 @@ fn new_cache(alloc: Global) -> Cache<ListStore> {
     Cache::new(alloc, store, 1_000, 10, CasCounter::starting_at(0))
 }
 
+/// Whether a cache returns its store with both items.
+fn are_returned(cache: Cache<ListStore>) -> bool {
+    let store = cache.into_store();
+    let (Some(first), Some(other)) = (store.front(), store.peek(b"a")) else {
+        return false;
+    };
+    store.len() == 2
+        && first.value.as_slice() == b"rst".as_slice()
+        && other.value.as_slice() == b"uvw".as_slice()
+}
+
 #[test]
 fn own_sets_are_stored(rt: HostRuntime) -> Result<(), Fail> {
-    let are_set = are_set(rt.alloc(), &mut new_cache(rt.alloc()))?;
-    assert!(rt; are_set);
+    let mut cache = new_cache(rt.alloc());
+    let are_set = are_set(rt.alloc(), &mut cache)?;
+    assert!(rt; are_set && are_returned(cache));
     Ok(())
 }
 

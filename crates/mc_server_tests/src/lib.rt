@@ -49,6 +49,8 @@ mod refusals;
 #[cfg(test)]
 mod replies;
 mod servers;
+#[cfg(test)]
+mod stores;
 mod streams;
 #[cfg(test)]
 mod texts;
