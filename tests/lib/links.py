@@ -264,7 +264,7 @@ def a_server_that_was_away_is_used_soon():
             begun = time.monotonic()
             server.listen()
             pool.links[0] = pool.stack.enter_context(server.accept())
-            want_at_most(time.monotonic() - begun, 0.7)
+            want_at_most(time.monotonic() - begun, 0.8)
             is_served(client)
             is_asked_and_answers(pool.links[0], client, b"a")
 

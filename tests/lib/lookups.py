@@ -279,7 +279,7 @@ def a_name_that_nobody_knows_is_refused_at_once():
         queries = NAMES.asked["nobody.example"]  # of the first look-up
         time.sleep(3)
         look_ups, tries = NAMES.asked["nobody.example"] // queries, connections_begun() - before - 1
-        want((look_ups, tries, look_ups in (2, 3), tries in (4, 5, 6)), (look_ups, tries, True, True))
+        want((look_ups, tries, look_ups in (2, 3, 4), tries in range(3, 8)), (look_ups, tries, True, True))
         want_at_most(proxy.processor_time(), 0.1)
 
 
