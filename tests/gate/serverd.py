@@ -444,7 +444,7 @@ def who_keeps_memory_is_closed():
 
 
 def an_answer_waits_for_memory():
-    """A large answer waits until another client has taken its own, and then it comes whole."""
+    """A large answer waits until another client has taken its own, and then it arrives whole."""
     with start("--buffers 16M") as server, server.connected() as other, server.connected() as small:
         asked(small, b"set k 0 0 1000000\r\n" + VALUE + b"\r\n", b"STORED\r\n")
         with keeper(server) as slow:
